@@ -1,0 +1,3 @@
+pub mod Ring
+pub mod Below
+pub mod Power

@@ -1,0 +1,28 @@
+-- Zero minus a number, wrapped to a width, and the fact that document 01's zero tests rest on.
+-- Assumes nothing.
+use mathlib.Core.Path.{_≡_}
+use Prim.Native.Nat.{ℕ, zero, suc, _-_, _%_, _^_}
+use lib.Bits.{bitOr}
+use lib.IntN.{ℤ, pos, negsuc}
+use lib.Signed.{shrZ}
+use mir.Syntax.{Width}
+use mir.Val.{bits, hbits, SFits, toZ, ofZ}
+
+-- on the bits: what is left of the difference modulo 2 to the width
+abbrev pub wrappedNeg : Width → ℕ → ℕ
+wrappedNeg w n = (2 ^ bits w - n) % 2 ^ bits w
+
+-- on the signed number that has those bits: -z, and z itself where z is the lowest number, whose negative the width does not hold
+abbrev pub wrappedNegℤ : Width → ℤ → ℤ
+wrappedNegℤ w z = toZ w (wrappedNeg w (ofZ w z))
+
+-- -1, all bits set, where the number is not 0, and 0 where it is
+abbrev pub nonzeroMask : ℤ → ℤ
+nonzeroMask (pos zero) = pos 0
+nonzeroMask (pos (suc n)) = negsuc 0
+nonzeroMask (negsuc n) = negsuc 0
+
+-- 01, module 1, the fact of the zero tests, once for every width: the bits of a number, or-ed with those of its wrapped negative and
+-- shifted until only the sign is left, are the mask. It holds for every number of the width, the lowest too.
+abbrev pub SignOfJoin : Type 0
+SignOfJoin = (w : Width) (z : ℤ) → SFits w z → shrZ (toZ w (bitOr (ofZ w z) (wrappedNeg w (ofZ w z)))) (2 ^ hbits w) ≡ nonzeroMask z

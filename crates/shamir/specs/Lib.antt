@@ -1,0 +1,5 @@
+pub mod Lists
+pub mod Polynomial
+pub mod Rows
+pub mod Count
+pub mod Theorems

@@ -1,0 +1,4 @@
+pub mod Fill
+pub mod Each
+pub mod Horner
+pub mod Blocks

@@ -1,0 +1,4 @@
+pub mod Search
+pub mod Storage
+pub mod Lengths
+pub mod Combining

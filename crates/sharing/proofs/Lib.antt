@@ -1,0 +1,12 @@
+pub mod SplitRules
+pub mod SplitAccepted
+pub mod SplitRows
+pub mod SplitBytes
+pub mod CombineRules
+pub mod CombineByteLengths
+pub mod Laid
+pub mod Places
+pub mod Recovery
+pub mod Hiding
+pub mod Promises
+pub mod Table

@@ -1,0 +1,7 @@
+pub mod Limits
+pub mod Split
+pub mod Combine
+pub mod ByteLengths
+pub mod Demands
+pub mod Promises
+pub mod Table

@@ -1,0 +1,115 @@
+-- The outcomes of the entries fit their words, and the words tell them apart.
+-- Assumes nothing.
+use mathlib.Core.Path.{_≡_, refl, sym, ap, _∙_}
+use mathlib.Core.Bool.{Bool, true, false, not, _||_}
+use mathlib.Core.List.{List, [], _∷_}
+use Prim.Native.Nat.{ℕ, zero, suc, _+_, _*_, _/_, _%_, _^_, _<_, _≤_}
+use native.Mathlib.Nat.{mul-le-mul-right}
+use native.Mathlib.Omega.{arith}
+use lib.Dec.{eqb, ltb, lit<}
+use lib.ListN.{length, getD, length-map}
+use borrow.Author.Tests.{ltb-true, ltb-false}
+use Rattle.answer.specs.Outcome.{Outcome, done, refused, refuse, wordOf}
+use Rattle.rows.specs.Search.{sum, allAre, firstZero, firstRepeated, within}
+use Rattle.rows.specs.Storage.{cut, identifiers}
+use Rattle.rows.specs.Lengths.{lengthsOf}
+use Rattle.rows.proofs.Lengths.{length-lengths}
+use Rattle.rows.proofs.Search.{repeating-within}
+use Rattle.rows.proofs.Storage.{length-cut}
+use Rattle.sharing.specs.Limits.{maxSecret, maxShares, maxRows}
+use Rattle.sharing.specs.Split.{inTurn, coefficientCount, splitRoom, splitOutcome}
+use Rattle.sharing.specs.Combine.{firstLength, secretLength, combineOutcome}
+use Rattle.sharing.specs.ByteLengths.{unreadable, byteLengthsAnswer}
+use Rattle.vsss.specs.Words.{Fits, Readable, Determined}
+
+small : (o : Outcome) → Fits o → wordOf o < 2 ^ 64
+small (done count) f = omega arith
+small (refused number first second) f = omega arith
+
+told : (o p : Outcome) → Fits o → Fits p → wordOf o ≡ wordOf p → o ≡ p
+told (done c) (done d) f g e = ap done e
+told (done c) (refused n i j) f g e = absurd (omega arith)
+told (refused n i j) (done c) f g e = absurd (omega arith)
+told (refused n i j) (refused m k l) f g e =
+    let en : n ≡ m = omega arith in
+    let ei : i ≡ k = omega arith in
+    let ej : j ≡ l = omega arith in
+    cc
+
+-- a chain fits where its refusals do, and what is left does where it was not refused
+fits-chain : (b : Bool) (o later : Outcome) → (b ≡ true → Fits o) → (b ≡ false → Fits later) → Fits (refuse b o later)
+fits-chain true o later yes-fits later-fits = yes-fits refl
+fits-chain false o later yes-fits later-fits = later-fits refl
+
+-- a refusal by number alone
+plain : (number : ℕ) → 0 < number → number < 2 ^ 24 → Fits (refused number 0 0)
+plain number some most = ((some, most), (lit< tt, lit< tt))
+
+fits-in-turn : (i n : ℕ) (ids : List ℕ) (later : Outcome) → i + n ≤ maxShares → Fits later → Fits (inTurn i n ids later)
+fits-in-turn i zero ids later h f = f
+fits-in-turn i (suc n) [] later h f = plain 5 (lit< tt) (lit< tt)
+fits-in-turn i (suc n) (x ∷ ids) later h f =
+    fits-chain (eqb x 0) (refused 6 i 0) (inTurn (suc i) n ids later) (λ e. ((lit< tt, lit< tt), (omega arith, lit< tt)))
+    (λ e. fits-in-turn (suc i) n ids later (omega arith) f)
+
+room-small : (n l : ℕ) → n ≤ maxShares → l ≤ maxSecret → splitRoom n l < 2 ^ 40
+room-small n l hn hl =
+    let a : n * (l + 1) ≤ maxShares * (l + 1) = mul-le-mul-right (l + 1) hn in
+    omega arith
+
+fits-split : (t n l : ℕ) (ids : List ℕ) (count room : ℕ) → Fits (splitOutcome t n l ids count room)
+unfolding splitOutcome
+fits-split t n l ids count room =
+    fits-chain (ltb maxShares n) _ _ (λ e. plain 1 (lit< tt) (lit< tt)) (λ few.
+    fits-chain (eqb l 0) _ _ (λ e. plain 2 (lit< tt) (lit< tt)) (λ e.
+    fits-chain (ltb n t) _ _ (λ e. plain 3 (lit< tt) (lit< tt)) (λ e.
+    fits-chain (ltb t 2) _ _ (λ e. plain 4 (lit< tt) (lit< tt)) (λ e.
+    fits-in-turn 0 n ids _ (omega (arith, ltb-false maxShares n few))
+    (fits-chain (ltb maxSecret l) _ _ (λ e. plain 10 (lit< tt) (lit< tt)) (λ short.
+    fits-chain (not (eqb count (coefficientCount t l))) _ _ (λ e. plain 11 (lit< tt) (lit< tt)) (λ e.
+    fits-chain (ltb room (splitRoom n l)) _ _ (λ e. plain 12 (lit< tt) (lit< tt)) (λ e.
+    room-small n l (ltb-false maxShares n few) (ltb-false maxSecret l short)))))))))
+
+fits-combine : (stored : ℕ) (lengths ids : List ℕ) (room : ℕ) → length ids ≤ maxRows → Fits (combineOutcome stored lengths ids room)
+unfolding combineOutcome
+fits-combine stored lengths ids room few =
+    fits-chain (not (eqb (sum lengths) stored)) _ _ (λ e. plain 13 (lit< tt) (lit< tt)) (λ e.
+    fits-chain (ltb (length lengths) 2) _ _ (λ e. plain 4 (lit< tt) (lit< tt)) (λ e.
+    fits-chain (ltb (firstLength lengths) 2) _ _ (λ e. plain 8 (lit< tt) (lit< tt)) (λ e.
+    fits-chain (not (allAre (firstLength lengths) lengths)) _ _ (λ e. plain 8 (lit< tt) (lit< tt)) (λ e.
+    fits-chain (within (firstZero ids) ids) _ _
+    (λ e. ((lit< tt, lit< tt), (omega (arith, ltb-true (firstZero ids) (length ids) e), lit< tt))) (λ e.
+    fits-chain (within (firstRepeated ids) ids) _ _
+    (λ e. let h = ltb-true (firstRepeated ids) (length ids) e in ((lit< tt, lit< tt), (omega arith, omega (arith, repeating-within ids h)))) (λ e.
+    fits-chain (ltb maxSecret (secretLength lengths)) _ _ (λ e. plain 10 (lit< tt) (lit< tt)) (λ short.
+    fits-chain (ltb room (secretLength lengths)) _ _ (λ e. plain 12 (lit< tt) (lit< tt)) (λ e.
+    omega (arith, ltb-false maxSecret (secretLength lengths) short)))))))))
+
+fits-bytes : (s lengths : List ℕ) (room : ℕ) → Fits (byteLengthsAnswer s lengths room)
+unfolding byteLengthsAnswer
+fits-bytes s lengths room =
+    let ns = lengthsOf lengths in
+    let ids = identifiers (cut ns s) in
+    let count : length ids ≡ length lengths / 4 = length-map (cut ns s) (λ r. getD r 0 0) ∙ length-cut ns s ∙ length-lengths lengths in
+    fits-chain (unreadable lengths) _ _ (λ e. plain 13 (lit< tt) (lit< tt)) (λ e.
+    fits-combine (length s) ns ids room (omega (arith, ltb-false maxRows (length lengths / 4) (second e))))
+  where
+    second : unreadable lengths ≡ false → ltb maxRows (length lengths / 4) ≡ false
+    second e = or-false (not (eqb (length lengths % 4) 0)) (ltb maxRows (length lengths / 4)) e
+      where
+        or-false : (a b : Bool) → (a || b) ≡ false → b ≡ false
+        or-false true b e = absurd (let z : _≡_ {A = ℕ} 0 1 = cc in omega arith)
+        or-false false b e = e
+
+pub readable : Readable
+readable = record { small = small; told = told; split = fits-split; combine = fits-bytes }
+
+-- the words of the entries, as their code asks for them
+pub split-word : (t n l : ℕ) (ids : List ℕ) (count room : ℕ) → wordOf (splitOutcome t n l ids count room) < 2 ^ 64
+split-word t n l ids count room = small (splitOutcome t n l ids count room) (fits-split t n l ids count room)
+
+pub combine-word : (s lengths : List ℕ) (room : ℕ) → wordOf (byteLengthsAnswer s lengths room) < 2 ^ 64
+combine-word s lengths room = small (byteLengthsAnswer s lengths room) (fits-bytes s lengths room)
+
+pub determined : Determined
+determined outcome bytes left right w v p q = (p .answers ∙ sym (q .answers), p .leaves ∙ sym (q .leaves))

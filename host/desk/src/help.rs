@@ -1,0 +1,61 @@
+//! The pages of `--help`.
+
+pub const DESK: &str = "\
+desk: splits a key file into row files, and combines row files into the key
+
+  desk split --threshold T --ids 1,2,3,4 [--coefficients FILE] [--force] --out DIR KEYFILE
+  desk combine [--force] --out KEYFILE ROWFILE...
+
+'desk split --help' and 'desk combine --help' have a page for each.
+
+Any T rows of a split give the key back. Fewer than T say nothing of it.
+
+WARNING: combine never learns T. With too few rows, or with a damaged row, it succeeds and the
+key that it writes is WRONG. Note T with the rows, and try the key before you rely on it.
+
+Exit status: 0 done
+             1 refused or failed; nothing was written. A refusal has its number and name as in
+               docs/RULES.md
+             2 wrong usage; nothing was written
+A run that was killed can leave files named .desk-*; remove them.
+";
+
+pub const SPLIT: &str = "\
+desk split: splits a key file into row files
+
+  desk split --threshold T --ids 1,2,3,4 [--coefficients FILE] [--force] --out DIR KEYFILE
+
+  KEYFILE              the key: 1 to 4,096 bytes. It is read, not changed
+  --threshold T        how many rows give the key back: from 2 to the number of identifiers
+  --ids 1,2,3,4        one identifier for each row, different, from 1 to 255
+  --out DIR            the folder for the row files 1.row, 2.row, ..; it is made if missing
+  --coefficients FILE  take the random bytes from the start of FILE: T - 1 for each byte of the
+                       key. Without it they come from the system's random device
+  --force              replace row files that are there already
+
+A row file is the identifier, one byte, then one byte for each byte of the key. Only its owner
+can read it. Each appears whole; if anything fails, none is left behind.
+
+Any T rows give the key back, fewer say nothing of it. That rests on the coefficients: they must
+be random, known to nobody, and used for one split only. Destroy a FILE after use.
+
+WARNING: no row says what T was, and combine never learns it. With too few rows combine succeeds
+with a WRONG key. Note T with the rows.
+";
+
+pub const COMBINE: &str = "\
+desk combine: combines row files into the key
+
+  desk combine [--force] --out KEYFILE ROWFILE...
+
+  ROWFILE...           row files of one split, each once, in any order: at least as many as the
+                       threshold of the split
+  --out KEYFILE        the file for the key
+  --force              replace KEYFILE if it is there already
+
+Only its owner can read KEYFILE. It appears whole or not at all.
+
+WARNING: combine never learns the threshold. With too few rows, with a damaged row, or with rows of
+different splits, it succeeds and the key is WRONG. Nothing in the rows can show that: try the key
+before you rely on it, and keep the rows until then.
+";

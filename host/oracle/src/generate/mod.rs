@@ -1,0 +1,26 @@
+//! Calls to compare: every boundary, short ones exhaustively, and random ones.
+
+mod boundaries;
+mod random_calls;
+mod short;
+
+pub use boundaries::boundary_calls;
+pub use random_calls::random_call;
+pub use short::short_calls;
+
+use crate::{CombineCall, SplitCall};
+
+#[derive(Clone, Debug)]
+pub enum Call {
+    Split(SplitCall),
+    Combine(CombineCall),
+    /// A combine whose lengths cross the C interface in a form that no list of numbers has.
+    LengthBytes(LengthBytesCall),
+}
+
+#[derive(Clone, Debug)]
+pub struct LengthBytesCall {
+    pub rows: Vec<u8>,
+    pub lengths: Vec<u8>,
+    pub room: usize,
+}

@@ -1,0 +1,87 @@
+//! The refusals in document 01's order.
+
+use super::{MAX_LIMIT, MAX_SECRET};
+use crate::Outcome;
+
+/// The first refusal whose condition holds.
+pub(super) fn split_refusal(
+    threshold: usize,
+    limit: usize,
+    secret: usize,
+    ids: &[u8],
+    coefficients: usize,
+    room: usize,
+) -> Option<Outcome> {
+    let refused = |number| Some(Outcome::refused(number));
+    if limit > MAX_LIMIT {
+        return refused(1);
+    }
+    if secret == 0 {
+        return refused(2);
+    }
+    if limit < threshold {
+        return refused(3);
+    }
+    if threshold < 2 {
+        return refused(4);
+    }
+    for place in 0..limit {
+        match ids.get(place) {
+            None => return refused(5),
+            Some(0) => return Some(Outcome::refused_at(6, place, 0)),
+            Some(_) => {}
+        }
+    }
+    if secret > MAX_SECRET {
+        return refused(10);
+    }
+    if coefficients != secret * (threshold - 1) {
+        return refused(11);
+    }
+    if room < limit * (secret + 1) {
+        return refused(12);
+    }
+    None
+}
+
+/// The first refusal whose condition holds.
+pub(super) fn combine_refusal(rows: &[u8], lengths: &[u32], room: usize) -> Option<Outcome> {
+    let refused = |number| Some(Outcome::refused(number));
+    let sum: u128 = lengths.iter().map(|&length| u128::from(length)).sum();
+    if sum != rows.len() as u128 {
+        return refused(13);
+    }
+    if lengths.len() < 2 {
+        return refused(4);
+    }
+    let width = lengths[0] as usize;
+    if width < 2 {
+        return refused(8);
+    }
+    if lengths.iter().any(|&length| length as usize != width) {
+        return refused(8);
+    }
+    let ids: Vec<u8> = rows.chunks_exact(width).map(|row| row[0]).collect();
+    if let Some(place) = ids.iter().position(|&id| id == 0) {
+        return Some(Outcome::refused_at(6, place, 0));
+    }
+    if let Some((first, second)) = first_repeat(&ids) {
+        return Some(Outcome::refused_at(7, first, second));
+    }
+    let secret = width - 1;
+    if secret > MAX_SECRET {
+        return refused(10);
+    }
+    if room < secret {
+        return refused(12);
+    }
+    None
+}
+
+/// The least place whose identifier comes again, and the least place after it where it does.
+fn first_repeat(ids: &[u8]) -> Option<(usize, usize)> {
+    ids.iter().enumerate().find_map(|(first, id)| {
+        let after = ids[first + 1..].iter().position(|other| other == id)?;
+        Some((first, first + 1 + after))
+    })
+}

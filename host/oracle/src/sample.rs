@@ -1,0 +1,218 @@
+//! A stored sample of the original's answers, and its replay where the text is not at hand.
+//!
+//! The sample is two text files, one call a line. Lines that begin with `#` are comments. Fields
+//! are hexadecimal and separated by one space; `-` is an empty field; a list of numbers is
+//! separated by commas.
+//!
+//! | file | fields |
+//! |---|---|
+//! | `split.txt` | threshold, limit, secret, identifiers, coefficients, number, rows |
+//! | `combine.txt` | lengths, rows, number, secret |
+//!
+//! The number is 0 for done, else document 01's refusal; the original has no places. The last field
+//! is what a done call writes, and is empty for a refused one. Rows lie one after another.
+
+use crate::{CombineCall, Outcome, SplitCall};
+use std::fmt::Write;
+
+pub const SPLIT: &str = include_str!("../sample/split.txt");
+pub const COMBINE: &str = include_str!("../sample/combine.txt");
+
+/// What the original answered: the bytes, or the number of its refusal.
+pub type Answer = Result<Vec<u8>, u8>;
+
+/// How many calls were replayed.
+#[derive(Clone, Copy, Debug, PartialEq, Eq)]
+pub struct Replayed {
+    pub split: usize,
+    pub combine: usize,
+}
+
+/// Bytes of the lent output behind the room that a call needs: they have to keep their values.
+const BEHIND: usize = 8;
+const FILL: u8 = 0xa7;
+
+/// Replays the whole sample. Closures take their arguments as [`Sharing`](crate::Sharing)'s
+/// methods do.
+///
+/// # Errors
+/// The first line whose answer or output differs.
+pub fn replay(
+    mut split: impl FnMut(usize, usize, &[u8], &[u8], &[u8], &mut [u8]) -> Outcome,
+    mut combine: impl FnMut(&[u8], &[u32], &mut [u8]) -> Outcome,
+) -> Result<Replayed, String> {
+    let splits = split_records(SPLIT)?;
+    for (line, (call, answer)) in &splits {
+        replay_one(answer, |out| {
+            split(
+                call.threshold,
+                call.limit,
+                &call.secret,
+                &call.ids,
+                &call.coefficients,
+                out,
+            )
+        })
+        .map_err(|what| format!("split.txt, line {line}: {call}: {what}"))?;
+    }
+    let combines = combine_records(COMBINE)?;
+    for (line, (call, answer)) in &combines {
+        replay_one(answer, |out| combine(&call.rows, &call.lengths, out))
+            .map_err(|what| format!("combine.txt, line {line}: {call}: {what}"))?;
+    }
+    Ok(Replayed {
+        split: splits.len(),
+        combine: combines.len(),
+    })
+}
+
+fn replay_one(answer: &Answer, run: impl FnOnce(&mut [u8]) -> Outcome) -> Result<(), String> {
+    let written = answer.as_deref().unwrap_or_default();
+    let mut out = vec![FILL; written.len() + BEHIND];
+    let outcome = run(&mut out);
+    let agrees = match (answer, outcome) {
+        (Ok(bytes), Outcome::Done(count)) => bytes.len() == count,
+        (Err(refused), Outcome::Refused { number, .. }) => *refused == number,
+        _ => false,
+    };
+    if !agrees {
+        let expected = answer.as_ref().map(Vec::len);
+        return Err(format!("answered {outcome}, the original {expected:?}"));
+    }
+    let (start, rest) = out.split_at(written.len());
+    if start != written {
+        return Err("the bytes differ from the original's".into());
+    }
+    if rest.iter().any(|&byte| byte != FILL) {
+        return Err("a byte behind those written changed".into());
+    }
+    Ok(())
+}
+
+/// A record with its line number, counted from 1.
+type Numbered<T> = Vec<(usize, T)>;
+
+/// The calls of `split.txt` with the original's answers. Each has exactly the room it needs.
+///
+/// # Errors
+/// The first line that is not of the format.
+pub fn split_records(text: &str) -> Result<Numbered<(SplitCall, Answer)>, String> {
+    records(text, |fields| {
+        let &[threshold, limit, secret, ids, coefficients, number, rows] = fields else {
+            return None;
+        };
+        let answer = answer(number, rows)?;
+        let call = SplitCall {
+            threshold: usize::from_str_radix(threshold, 16).ok()?,
+            limit: usize::from_str_radix(limit, 16).ok()?,
+            secret: bytes(secret)?,
+            ids: bytes(ids)?,
+            coefficients: bytes(coefficients)?,
+            room: answer.as_deref().map_or(0, <[u8]>::len),
+        };
+        Some((call, answer))
+    })
+}
+
+/// The calls of `combine.txt` with the original's answers. Each has exactly the room it needs.
+///
+/// # Errors
+/// The first line that is not of the format.
+pub fn combine_records(text: &str) -> Result<Numbered<(CombineCall, Answer)>, String> {
+    records(text, |fields| {
+        let &[lengths, rows, number, secret] = fields else {
+            return None;
+        };
+        let answer = answer(number, secret)?;
+        let call = CombineCall {
+            rows: bytes(rows)?,
+            lengths: numbers(lengths)?,
+            room: answer.as_deref().map_or(0, <[u8]>::len),
+        };
+        Some((call, answer))
+    })
+}
+
+fn records<T>(text: &str, read: fn(&[&str]) -> Option<T>) -> Result<Numbered<T>, String> {
+    text.lines()
+        .enumerate()
+        .filter(|(_, line)| !line.starts_with('#'))
+        .map(|(place, line)| {
+            let fields: Vec<&str> = line.split(' ').collect();
+            let record = read(&fields).ok_or(format!("line {} is not a record", place + 1))?;
+            Ok((place + 1, record))
+        })
+        .collect()
+}
+
+fn answer(number: &str, field: &str) -> Option<Answer> {
+    match u8::from_str_radix(number, 16).ok()? {
+        0 => Some(Ok(bytes(field)?)),
+        number => (field == "-").then_some(Err(number)),
+    }
+}
+
+fn bytes(field: &str) -> Option<Vec<u8>> {
+    if field == "-" {
+        return Some(Vec::new());
+    }
+    let (pairs, rest) = field.as_bytes().as_chunks::<2>();
+    if !rest.is_empty() || pairs.is_empty() {
+        return None;
+    }
+    pairs
+        .iter()
+        .map(|pair| u8::from_str_radix(str::from_utf8(pair).ok()?, 16).ok())
+        .collect()
+}
+
+fn numbers(field: &str) -> Option<Vec<u32>> {
+    if field == "-" {
+        return Some(Vec::new());
+    }
+    field
+        .split(',')
+        .map(|number| u32::from_str_radix(number, 16).ok())
+        .collect()
+}
+
+/// One line of `split.txt`, without its end.
+pub fn split_line(call: &SplitCall, answer: &Answer) -> String {
+    format!(
+        "{:x} {:x} {} {} {} {}",
+        call.threshold,
+        call.limit,
+        hex(&call.secret),
+        hex(&call.ids),
+        hex(&call.coefficients),
+        answer_fields(answer)
+    )
+}
+
+/// One line of `combine.txt`, without its end.
+pub fn combine_line(call: &CombineCall, answer: &Answer) -> String {
+    let lengths: Vec<String> = call.lengths.iter().map(|n| format!("{n:x}")).collect();
+    let lengths = if lengths.is_empty() {
+        "-".into()
+    } else {
+        lengths.join(",")
+    };
+    format!("{lengths} {} {}", hex(&call.rows), answer_fields(answer))
+}
+
+fn answer_fields(answer: &Answer) -> String {
+    match answer {
+        Ok(bytes) => format!("0 {}", hex(bytes)),
+        Err(number) => format!("{number:x} -"),
+    }
+}
+
+fn hex(bytes: &[u8]) -> String {
+    if bytes.is_empty() {
+        return "-".into();
+    }
+    bytes.iter().fold(String::new(), |mut text, byte| {
+        write!(text, "{byte:02x}").expect("a string takes every write");
+        text
+    })
+}

@@ -1,0 +1,75 @@
+//! The two calls into the proved library, made safe, with the bare 64-bit word that comes back.
+//!
+//! [`decode`](crate::decode) reads the word. Most callers want
+//! [`split_into`](crate::split_into) and [`combine_into`](crate::combine_into) instead.
+
+mod c {
+    extern "C" {
+        pub fn vsss_split_bytes(
+            threshold: usize,
+            limit: usize,
+            secret: *const u8,
+            secret_len: usize,
+            ids: *const u8,
+            ids_len: usize,
+            coefficients: *const u8,
+            coefficients_len: usize,
+            out: *mut u8,
+            out_len: usize,
+        ) -> u64;
+
+        pub fn vsss_combine_bytes(
+            rows: *const u8,
+            rows_len: usize,
+            lengths: *const u8,
+            lengths_len: usize,
+            out: *mut u8,
+            out_len: usize,
+        ) -> u64;
+    }
+}
+
+/// Splits `secret` into `limit` rows, one after another from the start of `out`.
+#[allow(unsafe_code)]
+pub fn split_bytes(
+    threshold: usize,
+    limit: usize,
+    secret: &[u8],
+    ids: &[u8],
+    coefficients: &[u8],
+    out: &mut [u8],
+) -> u64 {
+    // SAFETY: each pointer comes with the length of its slice, and `out` is lent exclusively, so
+    // it overlaps no other. The entry judges all the rest itself.
+    unsafe {
+        c::vsss_split_bytes(
+            threshold,
+            limit,
+            secret.as_ptr(),
+            secret.len(),
+            ids.as_ptr(),
+            ids.len(),
+            coefficients.as_ptr(),
+            coefficients.len(),
+            out.as_mut_ptr(),
+            out.len(),
+        )
+    }
+}
+
+/// Combines the rows that lie one after another in `rows`. `lengths` has four bytes for each row,
+/// least first.
+#[allow(unsafe_code)]
+pub fn combine_bytes(rows: &[u8], lengths: &[u8], out: &mut [u8]) -> u64 {
+    // SAFETY: as above.
+    unsafe {
+        c::vsss_combine_bytes(
+            rows.as_ptr(),
+            rows.len(),
+            lengths.as_ptr(),
+            lengths.len(),
+            out.as_mut_ptr(),
+            out.len(),
+        )
+    }
+}

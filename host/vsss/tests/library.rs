@@ -1,0 +1,221 @@
+//! The library through the safe functions: document 01's values, bounds and refusals.
+
+use vsss::{combine, combine_into, split, split_into, Refusal, Row, MAX_ROWS, MAX_SECRET};
+
+const LENT: u8 = 0xee;
+
+/// What split answers, and what was lent for its output afterwards.
+fn split_lent(
+    threshold: usize,
+    limit: usize,
+    secret: &[u8],
+    ids: &[u8],
+    coefficients: &[u8],
+    room: usize,
+) -> (Result<usize, Refusal>, Vec<u8>) {
+    let mut out = vec![LENT; room];
+    let answer = split_into(threshold, limit, secret, ids, coefficients, &mut out);
+    (answer, out)
+}
+
+fn combine_lent(rows: &[u8], lengths: &[u32], room: usize) -> (Result<usize, Refusal>, Vec<u8>) {
+    let mut out = vec![LENT; room];
+    let answer = combine_into(rows, lengths, &mut out);
+    (answer, out)
+}
+
+fn refused(refusal: Refusal, room: usize) -> (Result<usize, Refusal>, Vec<u8>) {
+    (Err(refusal), vec![LENT; room])
+}
+
+fn bytes_of(rows: &[Row]) -> Vec<&[u8]> {
+    rows.iter().map(Row::as_bytes).collect()
+}
+
+/// Bytes that differ from place to place; not random.
+fn some_bytes(len: usize, seed: usize) -> Vec<u8> {
+    (0..len)
+        .map(|i| (((i * i + seed) * 181) >> 3) as u8)
+        .collect()
+}
+
+#[test]
+fn values_g_to_j() {
+    let g = split(2, &[1, 2, 3], &[0x2a], &[0x05]).unwrap();
+    assert_eq!(bytes_of(&g), [[1, 0x2f], [2, 0x20], [3, 0x25]]);
+    assert_eq!(combine(&g[..2]).unwrap()[..], [0x2a]);
+
+    let i = split(3, &[1, 2, 3], &[0x2a], &[0x05, 0x07]).unwrap();
+    assert_eq!(bytes_of(&i), [[1, 0x28], [2, 0x3c], [3, 0x3e]]);
+    assert_eq!(combine(&i).unwrap()[..], [0x2a]);
+    assert_eq!(combine(&i[..2]).unwrap()[..], [0x24]);
+}
+
+#[test]
+fn repeated_identifiers_split_and_do_not_combine() {
+    let rows = split(2, &[7, 7], &[0x2a], &[0x05]).unwrap();
+    assert_eq!(bytes_of(&rows), [[7, 0x31], [7, 0x31]]);
+    assert_eq!(
+        combine(&rows).unwrap_err(),
+        Refusal::SharingDuplicateIdentifier {
+            first: 0,
+            second: 1
+        }
+    );
+}
+
+#[test]
+fn only_what_is_said_is_written() {
+    let (answer, out) = split_lent(2, 2, &[0x2a], &[1, 2, 3, 0], &[0x05], 6);
+    assert_eq!((answer, out), (Ok(4), vec![1, 0x2f, 2, 0x20, LENT, LENT]));
+    let (answer, out) = combine_lent(&[1, 0x2f, 2, 0x20], &[2, 2], 3);
+    assert_eq!((answer, out), (Ok(1), vec![0x2a, LENT, LENT]));
+}
+
+#[test]
+fn any_rows_from_the_threshold_on_give_the_secret_back() {
+    let secret = some_bytes(32, 1);
+    let rows = split(3, &[200, 1, 17, 255, 90], &secret, &some_bytes(64, 2)).unwrap();
+    for (a, b, c) in [(0, 1, 2), (4, 2, 0), (3, 1, 4)] {
+        assert_eq!(
+            combine(&[&rows[a], &rows[b], &rows[c]]).unwrap()[..],
+            secret
+        );
+    }
+    assert_eq!(combine(&rows).unwrap()[..], secret);
+    assert_ne!(combine(&rows[..2]).unwrap()[..], secret);
+}
+
+#[test]
+fn the_largest_split_is_accepted_and_one_more_is_not() {
+    let secret = some_bytes(MAX_SECRET, 3);
+    let ids: Vec<u8> = (1..=255).collect();
+    let rows = split(MAX_ROWS, &ids, &secret, &some_bytes(MAX_SECRET * 254, 4)).unwrap();
+    assert_eq!(rows.len(), MAX_ROWS);
+    assert!(combine(&rows).unwrap()[..] == secret, "another secret");
+
+    let longer = some_bytes(MAX_SECRET + 1, 3);
+    assert_eq!(
+        split(2, &[1, 2], &longer, &longer).unwrap_err(),
+        Refusal::TooLong
+    );
+    assert_eq!(
+        combine(&[[1; 4098], [2; 4098]]).unwrap_err(),
+        Refusal::TooLong
+    );
+    assert_eq!(combine(&[[1; 4097], [2; 4097]]).unwrap().len(), MAX_SECRET);
+
+    let more: Vec<u8> = (0..=255).collect();
+    assert_eq!(
+        split(2, &more, &[], &[]).unwrap_err(),
+        Refusal::InvalidSizeRequest
+    );
+}
+
+#[test]
+fn split_refuses_in_its_order_and_changes_nothing() {
+    let zero = |place| Refusal::SharingInvalidIdentifier { place };
+    // Each call would also be refused by what the next ones are refused by.
+    type Call<'a> = (usize, usize, &'a [u8], &'a [u8], &'a [u8], Refusal);
+    let calls: [Call; 12] = [
+        (0, 256, &[], &[], &[9], Refusal::InvalidSizeRequest),
+        (300, 255, &[], &[], &[9], Refusal::InvalidSecret),
+        (
+            1,
+            0,
+            &[1],
+            &[],
+            &[9],
+            Refusal::SharingLimitLessThanThreshold,
+        ),
+        (
+            300,
+            255,
+            &[1],
+            &[],
+            &[9],
+            Refusal::SharingLimitLessThanThreshold,
+        ),
+        (0, 0, &[1], &[], &[9], Refusal::SharingMinThreshold),
+        (1, 2, &[1], &[], &[9], Refusal::SharingMinThreshold),
+        (
+            2,
+            2,
+            &[1; 5000],
+            &[],
+            &[9],
+            Refusal::NotEnoughShareIdentifiers,
+        ),
+        (2, 3, &[1; 5000], &[1, 0], &[9], zero(1)),
+        (
+            2,
+            3,
+            &[1; 5000],
+            &[1, 2],
+            &[9],
+            Refusal::NotEnoughShareIdentifiers,
+        ),
+        (2, 3, &[1; 5000], &[1, 2, 0, 0], &[9], zero(2)),
+        (2, 2, &[1; 4097], &[1, 2], &[9], Refusal::TooLong),
+        (2, 2, &[1, 2], &[1, 2], &[9], Refusal::CoefficientCount),
+    ];
+    for (threshold, limit, secret, ids, coefficients, refusal) in calls {
+        let got = split_lent(threshold, limit, secret, ids, coefficients, 3);
+        assert_eq!(got, refused(refusal, 3));
+    }
+    assert_eq!(
+        split_lent(2, 2, &[1], &[1, 2], &[9], 3),
+        refused(Refusal::NoRoom, 3)
+    );
+    assert_eq!(split_lent(2, 2, &[1], &[1, 2], &[9], 4).0, Ok(4));
+}
+
+#[test]
+fn combine_refuses_in_its_order_and_changes_nothing() {
+    let zero = |place| Refusal::SharingInvalidIdentifier { place };
+    let twice = |first, second| Refusal::SharingDuplicateIdentifier { first, second };
+    let calls: [(&[u8], &[u32], Refusal); 10] = [
+        (&[1], &[], Refusal::RowLengths),
+        (&[0, 0], &[1], Refusal::RowLengths),
+        (&[], &[], Refusal::SharingMinThreshold),
+        (&[0], &[1], Refusal::SharingMinThreshold),
+        (&[0, 0], &[1, 1], Refusal::InvalidShare),
+        (&[0, 1, 0], &[2, 1], Refusal::InvalidShare),
+        (&[5, 1, 5, 1, 0, 1, 0, 1], &[2, 2, 2, 2], zero(2)),
+        (&[3, 1, 5, 1, 5, 1, 3, 1], &[2, 2, 2, 2], twice(0, 3)),
+        (&[3, 1, 5, 1, 5, 1, 5, 1], &[2, 2, 2, 2], twice(1, 2)),
+        (&[1, 1, 2, 1], &[2, 2], Refusal::NoRoom),
+    ];
+    for (rows, lengths, refusal) in calls {
+        assert_eq!(combine_lent(rows, lengths, 0), refused(refusal, 0));
+    }
+    let long = [[7; 4098], [7; 4098]].concat();
+    assert_eq!(
+        combine_lent(&long, &[4098, 4098], 9),
+        refused(twice(0, 1), 9)
+    );
+    assert_eq!(
+        combine_lent(&[1; 65_536], &[1; 65_536], 9),
+        refused(Refusal::RowLengths, 9)
+    );
+}
+
+#[test]
+fn rows_of_any_bytes_can_be_given() {
+    assert_eq!(
+        combine::<&[u8]>(&[]).unwrap_err(),
+        Refusal::SharingMinThreshold
+    );
+    assert_eq!(
+        combine(&[[1u8; 0], [2; 0]]).unwrap_err(),
+        Refusal::InvalidShare
+    );
+    assert_eq!(
+        combine(&[vec![1, 2], vec![2]]).unwrap_err(),
+        Refusal::InvalidShare
+    );
+    assert_eq!(
+        combine(&[[1, 5], [0, 5]]).unwrap_err(),
+        Refusal::SharingInvalidIdentifier { place: 1 }
+    );
+}

@@ -13,7 +13,7 @@ use Rattle.shamir.specs.Lists.{Below, Fresh}
 use Rattle.shamir.specs.Polynomial.{value, polynomial, interpolate}
 use Rattle.shamir.specs.Rows.{row, column, combined}
 use Rattle.shamir.specs.Count.{Exactly}
-use Rattle.shamir.specs.Theorems.{Places, Points, RowPoints, Through, Shows, Interpolation, Recovery, RowRecovery, Hiding, RowHiding, Agreement, AnyChange, OneChange}
+use Rattle.shamir.specs.Theorems.{Places, Points, RowPoints, Through, Shows, Interpolation, Recovery, RowRecovery, Hiding, RowHiding, Agreement, AnyChange}
 use Rattle.shamir.proofs.Lists.{all-take, all-drop, all-append, all-at, all-map, unzip, zip-map}
 use Rattle.shamir.proofs.Polynomial.{value-lt, value-zero, value-append, points-zip, zeros-lt, value-pad, through, polynomial-only, polynomial-pad}
 use Rattle.shamir.proofs.Rows.{length-row, row-at, row-zero, rows-cons, rows-nil}
@@ -43,15 +43,6 @@ module _ {F : Ops} (L : Laws F) where
 
   pub anyChange : AnyChange L
   anyChange xs ys ys′ h h′ e = sym (through L xs ys h .fits) ∙ ap (λ p. map (value F p) xs) e ∙ through L xs ys′ h′ .fits
-
-  -- the two polynomials agree at z and at the other points
-  pub oneChange : OneChange L
-  oneChange z x y y′ xs ys hz fr h h′ e =
-      let t = through L (x ∷ xs) (y ∷ ys) h in
-      let t′ = through L (x ∷ xs) (y′ ∷ ys) h′ in
-      let p : polynomial F (x ∷ xs) (y ∷ ys) ≡ polynomial F (x ∷ xs) (y′ ∷ ys) = agreement _ _ (z ∷ xs) (t .long ∙ sym (t′ .long)) (omega (arith, t .long)) (t .small) (t′ .small)
-      (record { distinct = (fr, h .places .distinct .1); small = (hz, h .places .small .1) }) (ap₂ _∷_ e (ap (drop 1) (t .fits) ∙ sym (ap (drop 1) (t′ .fits)))) in
-      ap (λ l. getD l 0 0) (sym (t .fits) ∙ ap (λ l. map (value F l) (x ∷ xs)) p ∙ t′ .fits)
 
   -- the coefficients q from the k-th on are free: they shift each value, and the first k are those through the shifted points
   module _ (xs ys : List ℕ) (h : Points F xs ys) where

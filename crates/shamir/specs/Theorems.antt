@@ -1,4 +1,4 @@
--- What is proved of Shamir's sharing, in proofs/Theorems.antt, over every field of characteristic 2. Assumes nothing.
+-- What proofs/Theorems.antt proves of Shamir's sharing over every field of characteristic 2: operations F, laws L. Assumes nothing.
 use mathlib.Core.Path.{_≡_}
 use mathlib.Core.List.{List, _∷_, map}
 use Prim.Native.Nat.{ℕ, suc, _<_, _≤_, _+_, _*_, _^_}
@@ -41,7 +41,6 @@ module _ (F : Ops) where
     pub small : Below size cs
     pub fits : map (λ x. row F k x ss cs) xs ≡ rows
 
--- Each statement is one of the operations F under the laws L of a field.
 module _ {F : Ops} (L : Laws F) where
   open Ops F using (size)
 
@@ -75,7 +74,6 @@ module _ {F : Ops} (L : Laws F) where
     pub one : (n s : ℕ) (xs ys : List ℕ) → length xs ≡ n → s < size → Fresh 0 xs → Points F xs ys → Unique (λ cs. Through F (suc n) xs ys (s ∷ cs))
     pub count : (m n s : ℕ) (xs ys : List ℕ) → m + length xs ≡ n → s < size → Fresh 0 xs → Points F xs ys → Exactly (size ^ m) (λ cs. Through F (suc n) xs ys (s ∷ cs))
 
-  -- the same of rows
   pub record RowHiding : Type 0 where
     pub one : (n : ℕ) (ss xs : List ℕ) (rows : List (List ℕ)) → length xs ≡ n → Below size ss → Fresh 0 xs → RowPoints F (length ss) xs rows → Unique (Shows F n ss xs rows)
     pub count : (m n : ℕ) (ss xs : List ℕ) (rows : List (List ℕ)) → m + length xs ≡ n → Below size ss → Fresh 0 xs
@@ -86,11 +84,6 @@ module _ {F : Ops} (L : Laws F) where
   Agreement = (p q xs : List ℕ) → length p ≡ length q → length p ≤ length xs → Below size p → Below size q → Places F xs
       → map (value F p) xs ≡ map (value F q) xs → p ≡ q
 
-  -- other values have another polynomial
+  -- so a changed value changes the polynomial: other values at the same points have another
   abbrev pub AnyChange : Type 0
   AnyChange = (xs ys ys′ : List ℕ) → Points F xs ys → Points F xs ys′ → polynomial F xs ys ≡ polynomial F xs ys′ → ys ≡ ys′
-
-  -- another value at the first point has another interpolated value at each z that is no other point's x
-  abbrev pub OneChange : Type 0
-  OneChange = (z x y y′ : ℕ) (xs ys : List ℕ) → z < size → Fresh z xs → Points F (x ∷ xs) (y ∷ ys) → Points F (x ∷ xs) (y′ ∷ ys)
-      → interpolate F z (x ∷ xs) (y ∷ ys) ≡ interpolate F z (x ∷ xs) (y′ ∷ ys) → y ≡ y′

@@ -2,6 +2,8 @@
 
 use std::fmt;
 
+use crate::{Outcome, Sharing};
+
 #[derive(Clone, Debug, PartialEq, Eq)]
 pub struct SplitCall {
     pub threshold: usize,
@@ -24,6 +26,18 @@ impl SplitCall {
     /// The count of bytes that an accepted call writes: n(L + 1).
     pub fn bytes_written(&self) -> usize {
         self.limit.saturating_mul(self.secret.len() + 1)
+    }
+
+    /// The call made of a library, with an output of any length.
+    pub fn made_of(&self, sharing: &dyn Sharing, out: &mut [u8]) -> Outcome {
+        sharing.split(
+            self.threshold,
+            self.limit,
+            &self.secret,
+            &self.ids,
+            &self.coefficients,
+            out,
+        )
     }
 }
 

@@ -7,7 +7,7 @@
 
 use crate::generate::{Call, LengthBytesCall, boundary_calls, random_call, short_calls};
 use crate::{
-    CombineCall, Guarded, Original, Outcome, Random, Sharing, SplitCall, original_at_hand,
+    CombineCall, Guarded, Original, Outcome, Random, Reference, Sharing, SplitCall, original_at_hand,
     reference,
 };
 use std::fmt;
@@ -157,14 +157,7 @@ impl<'a> Judge<'a> {
     fn split(&mut self, call: &SplitCall) -> Result<(), String> {
         self.summary.split += 1;
         let expected = self.expect(call.room, |out| {
-            reference::split(
-                call.threshold,
-                call.limit,
-                &call.secret,
-                &call.ids,
-                &call.coefficients,
-                out,
-            )
+            call.made_of(&Reference, out)
         });
         self.compare_split_with_original(call, &expected)?;
 

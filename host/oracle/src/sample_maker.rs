@@ -2,7 +2,7 @@
 
 use crate::generate::{Call, boundary_calls, random_call};
 use crate::sample::{combine_line, split_line};
-use crate::{CombineCall, Original, Random, SplitCall, reference};
+use crate::{CombineCall, Original, Random, Reference, SplitCall, reference};
 
 /// Seed of the random calls.
 pub const SEED: u64 = 6;
@@ -105,14 +105,7 @@ fn apart(calls: Vec<Call>) -> (Vec<SplitCall>, Vec<CombineCall>) {
 
 fn split_number(call: &SplitCall) -> u8 {
     let mut out = vec![0; call.room];
-    reference::split(
-        call.threshold,
-        call.limit,
-        &call.secret,
-        &call.ids,
-        &call.coefficients,
-        &mut out,
-    )
+    call.made_of(&Reference, &mut out)
     .number()
 }
 

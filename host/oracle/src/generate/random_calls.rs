@@ -1,7 +1,7 @@
 //! Random calls: accepted ones, and ones damaged in up to three ways.
 
 use super::Call;
-use crate::{CombineCall, Random, SplitCall, reference};
+use crate::{CombineCall, Random, Reference, SplitCall};
 
 /// One random call.
 pub fn random_call(random: &mut Random) -> Call {
@@ -121,14 +121,7 @@ fn random_combine(random: &mut Random) -> CombineCall {
 fn some_rows_of_a_split(random: &mut Random) -> Vec<Vec<u8>> {
     let call = accepted_split(random);
     let mut out = vec![0; call.room];
-    reference::split(
-        call.threshold,
-        call.limit,
-        &call.secret,
-        &call.ids,
-        &call.coefficients,
-        &mut out,
-    );
+    call.made_of(&Reference, &mut out);
     let mut rows: Vec<Vec<u8>> = out[..call.bytes_written()]
         .chunks_exact(call.secret.len() + 1)
         .map(<[u8]>::to_vec)

@@ -11,16 +11,16 @@ use crate::limits::MAX_SECRET;
 use answer::Answer;
 use answer::Reason;
 
-// What is left once the lengths are judged: m rows of w bytes each fill the storage.
+// What is left once the lengths are judged: m rows of w bytes each fill the storage. A zero anywhere comes before a repeat.
 fn combine_equal_rows(rows: &[u8], w: usize, m: usize, out: &mut [u8]) -> Answer
     requires { ⌜ (m * w ≡ length (now rows)) × (1 < m) × (1 < w) ⌝ }
     ensures { λ r. ⌜ Combines (now (rows .entry)) (replicate m w) (now (out .entry)) (answerOf r) (now (out .exit)) ⌝ }
 {
     let z = rows::find(rows, w, m, 0, 0);
+    let i = rows::first_repeated(rows, w, m);
     if z < m {
         return Answer::Refused(Reason::SharingInvalidIdentifier(z));
     }
-    let i = rows::first_repeated(rows, w, m);
     if i < m {
         let j = rows::first_repeating(rows, w, m, i);
         return Answer::Refused(Reason::SharingDuplicateIdentifier(i, j));

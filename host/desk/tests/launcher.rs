@@ -1,6 +1,6 @@
-//! The scripts `desk` at the root and `host/cargo`: what they build, when, and what they say where
-//! a tool is missing. They are played in a copy of the tree, with stand-ins for the tools that do
-//! little more than say that they were called.
+//! The scripts `desk` at the root, `host/library`, `host/clang-here` and `host/cargo`: what they
+//! build, when, and what they say where a tool is missing. They are played in a copy of the tree,
+//! with stand-ins for the tools that do little more than say that they were called.
 
 use std::os::unix::fs::PermissionsExt;
 use std::path::{Path, PathBuf};
@@ -20,31 +20,43 @@ const SOURCES: [&str; 8] = [
     "host/desk/src/main.rs",
 ];
 
-/// What the scripts use of the system.
-const BORROWED: [&str; 6] = ["dirname", "readlink", "find", "head", "mkdir", "chmod"];
+const SCRIPTS: [&str; 4] = ["desk", "host/library", "host/clang-here", "host/cargo"];
 
-const TOOLS: [(&str, &str); 6] = [
-    ("rt", RT),
-    ("cargo", CARGO),
-    ("cc", "#!/bin/sh\n"),
-    ("rustc", "#!/bin/sh\necho /\n"),
-    ("x86_64-linux-gnu-gcc", "#!/bin/sh\n"),
-    (
-        "qemu-x86_64",
-        "#!/bin/sh\nshift 2; echo emulated; exec \"$@\"\n",
-    ),
+/// What the scripts use of the system.
+const BORROWED: [&str; 14] = [
+    "basename", "cat", "chmod", "dirname", "find", "grep", "head", "ln", "mkdir", "mv", "readlink",
+    "rm", "sed", "sh",
 ];
 
+const TOOLS: [(&str, &str); 3] = [("rt", RT), ("cargo", CARGO), ("cc", "#!/bin/sh\n")];
+
+/// Compiles, where it stands in for a kit shown to itself, by the clang of that kit.
 const RT: &str = "#!/bin/sh
+case $1 in doc) echo \"${0%/bin/rt}/kit/docs/guide\"; exit ;; esac
 echo \"rt $*\"
 mkdir -p target/staticlib
-echo > target/staticlib/libvsss.a
+module=target/module.bc
+printf 'target datalayout = \"theirs\"\\ntarget triple = \"theirs\"\\ncode\\n' > $module
+clang=${RATTLE_HOME-}/on/aarch64/toolchain/bin/clang
+if [ ! -x \"$clang\" ]; then mv $module target/staticlib/libvsss.a; exit; fi
+\"$clang\" --target=x86_64 -march=x86-64 -O3 -c -x ir $module -o target/staticlib/libvsss.a
+";
+
+/// Shows a module as text, and compiles it by copying; before that, the words of the call.
+const CLANG: &str = "#!/bin/sh
+words=$*
+for word; do last=$word; case $word in /dev/null|*.bc|*.ll) input=$word ;; esac; done
+case $words in
+*/dev/null*) printf 'target datalayout = \"ours\"\\ntarget triple = \"ours\"\\n' ;;
+*-emit-llvm*) cat \"$input\" ;;
+*) { echo \"$words\"; cat \"$input\"; } > \"$last\" ;;
+esac
 ";
 
 const CARGO: &str = "#!/bin/sh
-echo \"cargo $1 for ${CARGO_BUILD_TARGET-this machine}, library ${VSSS_LIB_DIR-as proved}\"
+echo \"cargo $1, library ${VSSS_LIB_DIR-as proved}\"
 while [ \"$1\" != --target-dir ]; do shift; done
-folder=$2/${CARGO_BUILD_TARGET+$CARGO_BUILD_TARGET/}release
+folder=$2/release
 mkdir -p \"$folder\"
 printf '#!/bin/sh\\necho \"ran: $*\"\\n' > \"$folder/desk\"
 chmod +x \"$folder/desk\"
@@ -69,7 +81,7 @@ impl Tree {
         for source in SOURCES {
             tree.write(source, "");
         }
-        for script in ["desk", "host/cargo"] {
+        for script in SCRIPTS {
             let original = Path::new(env!("CARGO_MANIFEST_DIR"))
                 .join("../..")
                 .join(script);
@@ -78,6 +90,7 @@ impl Tree {
         tree.borrow_tools();
         tree.write_program("bin/uname", &format!("#!/bin/sh\necho {processor}\n"));
         tree.give_all_tools();
+        tree.write_program("kit/on/aarch64/toolchain/bin/clang", CLANG);
         tree
     }
 
@@ -152,19 +165,22 @@ fn all_is_built_once_and_then_it_is_quiet() {
     let (said, code) = tree.run();
     assert_eq!(code, 0, "{said}");
     assert!(said.starts_with("ran: split a b\ndesk: proving"), "{said}");
-    let builds = "\nrt staticlib vsss\ncargo build for this machine, library as proved\n";
+    let builds = "\nrt staticlib vsss\ncargo build, library as proved\n";
     assert!(said.ends_with(builds), "{said}");
     assert_eq!(tree.run(), ("ran: split a b\n".to_string(), 0));
 }
 
 #[test]
-fn on_another_processor_it_is_built_for_x86_64_and_emulated() {
-    let tree = Tree::new("emulated", "aarch64");
+fn on_another_processor_the_module_is_compiled_for_it() {
+    let tree = Tree::new("elsewhere", "aarch64");
     let (said, code) = tree.run();
     assert_eq!(code, 0, "{said}");
-    let builds = "\ncargo build for x86_64-unknown-linux-gnu, library as proved\n";
-    assert!(said.ends_with(builds), "{said}");
-    assert_eq!(tree.run(), ("emulated\nran: split a b\n".to_string(), 0));
+    let archive = fs::read_to_string(tree.root.join("target/host/libvsss.a")).unwrap();
+    let made = "--target=aarch64-unknown-linux-gnu -O3 -c -x ir target/module.ll \
+                -o target/staticlib/libvsss.a\n\
+                target datalayout = \"ours\"\ntarget triple = \"ours\"\ncode\n";
+    assert_eq!(archive, made);
+    assert_eq!(tree.run(), ("ran: split a b\n".to_string(), 0));
 }
 
 #[test]
@@ -190,20 +206,6 @@ fn a_missing_tool_is_named_with_how_to_get_it() {
     tree.is_named_when_missing("rt", "the Rattle kit");
     tree.is_named_when_missing("cargo", "rustup.rs");
     tree.is_named_when_missing("cc", "apt install gcc");
-}
-
-#[test]
-fn a_tool_for_another_processor_is_named_too() {
-    let tree = Tree::new("missing-there", "aarch64");
-    tree.is_named_when_missing("x86_64-linux-gnu-gcc", "apt install gcc-x86-64-linux-gnu");
-    tree.is_named_when_missing("qemu-x86_64", "apt install qemu-user");
-    tree.write_program("bin/rustc", "#!/bin/sh\necho /nowhere\n");
-    let (said, code) = tree.run();
-    assert_eq!(code, 1);
-    assert!(
-        said.contains("rustup target add x86_64-unknown-linux-gnu"),
-        "{said}"
-    );
 }
 
 #[test]

@@ -44,20 +44,6 @@ fn compile_caller() -> PathBuf {
     program
 }
 
-/// Through cargo's emulator, where there is one.
-fn start(program: &Path) -> Command {
-    let runner = env::var("CARGO_TARGET_X86_64_UNKNOWN_LINUX_GNU_RUNNER").unwrap_or_default();
-    let mut words = runner.split_whitespace();
-    match words.next() {
-        None => Command::new(program),
-        Some(emulator) => {
-            let mut command = Command::new(emulator);
-            command.args(words).arg(program);
-            command
-        }
-    }
-}
-
 fn succeeds(command: &mut Command) -> Output {
     let output = command
         .output()
@@ -73,7 +59,7 @@ fn succeeds(command: &mut Command) -> Output {
 
 #[test]
 fn a_c_caller_gets_the_rows_the_secret_and_the_refusals() {
-    let output = succeeds(&mut start(&compile_caller()));
+    let output = succeeds(&mut Command::new(compile_caller()));
     let said = String::from_utf8_lossy(&output.stdout);
     assert_eq!(said.lines().count(), 11, "{said}");
 }

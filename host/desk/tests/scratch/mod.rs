@@ -4,7 +4,7 @@ use std::env;
 use std::fs::{self, Permissions};
 use std::os::unix::fs::{MetadataExt, PermissionsExt};
 use std::os::unix::process::CommandExt;
-use std::path::{Path, PathBuf};
+use std::path::PathBuf;
 use std::process::{self, Command};
 
 /// Nobody: root may read and write all, so that nothing would be denied.
@@ -31,7 +31,7 @@ impl Scratch {
         for folder in [&bin, &work] {
             fs::create_dir(folder).unwrap();
         }
-        place_desk(&bin);
+        fs::copy(env!("CARGO_BIN_EXE_desk"), bin.join("desk")).unwrap();
         for path in [&self.root, &bin, &work, &bin.join("desk")] {
             fs::set_permissions(path, Permissions::from_mode(0o755)).unwrap();
         }
@@ -64,21 +64,6 @@ impl Scratch {
         );
         let said = String::from_utf8_lossy(&output.stdout).into_owned();
         (said, output.status.code().expect("ended by a signal"))
-    }
-}
-
-/// The desk as `desk` in `bin`; behind cargo's emulator where there is one, since a shell starts it.
-fn place_desk(bin: &Path) {
-    let desk = bin.join("desk");
-    match env::var("CARGO_TARGET_X86_64_UNKNOWN_LINUX_GNU_RUNNER") {
-        Err(_) => drop(fs::copy(env!("CARGO_BIN_EXE_desk"), desk).unwrap()),
-        Ok(runner) => {
-            let emulated = bin.join("desk-x86-64");
-            fs::copy(env!("CARGO_BIN_EXE_desk"), &emulated).unwrap();
-            fs::set_permissions(&emulated, Permissions::from_mode(0o755)).unwrap();
-            let script = format!("#!/bin/sh\nexec {runner} {} \"$@\"\n", emulated.display());
-            fs::write(desk, script).unwrap();
-        }
     }
 }
 

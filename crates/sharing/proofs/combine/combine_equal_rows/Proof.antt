@@ -12,14 +12,15 @@ use Rattle.sharing.proofs.combine.combine_equal_rows.Tie as tie
 find-requires : tie.Need-find-requires
 find-requires c κs = let s = c .before .before in (omega arith, omega (arith, s .pre .0), omega (arith, s .pre .2))
 
-returns : tie.Need-returns
-returns c =
-    let s = c .before .before .before .before in
-    let a = s .args in
-    zero-found (a .rows .now) (a .w) (a .m) (a .out .now) (s .pre) _ (c .before .find .ensures) (c .if1 .taken)
-
 first-repeated-requires : tie.Need-first-repeated-requires
 first-repeated-requires c κs = search needs
+
+returns : tie.Need-returns
+returns c =
+    let sought = c .before .before in
+    let s = sought .before .before .before in
+    let a = s .args in
+    zero-found (a .rows .now) (a .w) (a .m) (a .out .now) (s .pre) _ (sought .find .ensures) (c .if1 .taken)
 
 first-repeating-requires : tie.Need-first-repeating-requires
 first-repeating-requires c κs = search needs
@@ -27,9 +28,9 @@ first-repeating-requires c κs = search needs
 returns-2 : tie.Need-returns-2
 returns-2 c =
     let second = c .before in
-    let repeated = second .before in
-    let first = repeated .before in
-    let sought = first .before in
+    let first = second .before in
+    let repeated = first .before in
+    let sought = repeated .before in
     let s = sought .before .before .before in
     let a = s .args in
     repeat-found (a .rows .now) (a .w) (a .m) (a .out .now) (s .pre) (sought .find .ensures) (first .if1 .left) _ _ (repeated .first-repeated .ensures) (c .first-repeating .ensures) (second .if2 .taken)
@@ -40,9 +41,9 @@ sub-l c = search needs
 returns-3 : tie.Need-returns-3
 returns-3 c =
     let second = c .before in
-    let repeated = second .before in
-    let first = repeated .before in
-    let sought = first .before in
+    let first = second .before in
+    let repeated = first .before in
+    let sought = repeated .before in
     let s = sought .before .before .before in
     let a = s .args in
     too-long (a .rows .now) (a .w) (a .m) (a .out .now) (s .pre) (sought .find .ensures) (first .if1 .left) (repeated .first-repeated .ensures) (second .if2 .left) (c .if3 .taken)
@@ -51,9 +52,9 @@ returns-4 : tie.Need-returns-4
 returns-4 c =
     let third = c .before in
     let second = third .before in
-    let repeated = second .before in
-    let first = repeated .before in
-    let sought = first .before in
+    let first = second .before in
+    let repeated = first .before in
+    let sought = repeated .before in
     let s = sought .before .before .before in
     let a = s .args in
     no-room (a .rows .now) (a .w) (a .m) (a .out .now) (s .pre) (sought .find .ensures) (first .if1 .left) (repeated .first-repeated .ensures) (second .if2 .left) (third .if3 .left) (c .if4 .taken)
@@ -70,9 +71,9 @@ combine-rows-requires : tie.Need-combine-rows-requires
 combine-rows-requires c κs =
     let fourth = c .before in
     let second = fourth .before .before in
-    let repeated = second .before in
-    let first = repeated .before in
-    let sought = first .before in
+    let first = second .before in
+    let repeated = first .before in
+    let sought = repeated .before in
     let s = sought .before .before .before in
     let a = s .args in
     ready (a .rows .now) (a .w) (a .m) (a .out .now) (s .pre) (sought .find .ensures) (first .if1 .left) (repeated .first-repeated .ensures) (second .if2 .left) _ (length-take-le (a .w - 1) (a .out .now) (fourth .if4 .left))
@@ -86,9 +87,9 @@ returns-5 c =
     let fourth = called .before .before in
     let third = fourth .before in
     let second = third .before in
-    let repeated = second .before in
-    let first = repeated .before in
-    let sought = first .before in
+    let first = second .before in
+    let repeated = first .before in
+    let sought = repeated .before in
     let s = sought .before .before .before in
     let a = s .args in
     let fits = fourth .if4 .left in
@@ -99,8 +100,8 @@ combine-equal-rows-spec =
     tie.close
     (tie.spec
     find-requires
-    returns
     first-repeated-requires
+    returns
     first-repeating-requires
     returns-2
     sub-l

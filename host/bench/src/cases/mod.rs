@@ -1,0 +1,64 @@
+//! What is measured. A new group is a module here that makes a [`Group`], and a line in [`all`].
+
+mod combine;
+mod split;
+
+use oracle::{Original, Outcome};
+
+/// The same work done twice: by ours, and by what ours is put beside.
+pub trait Pair {
+    /// One call of ours.
+    fn ours(&mut self);
+
+    /// One call of the other.
+    fn other(&mut self);
+
+    /// One call of each, untimed.
+    ///
+    /// # Panics
+    /// Where the answers differ: their times would then say nothing.
+    fn assert_alike(&mut self);
+}
+
+pub struct Case {
+    /// What tells it from the other cases of its group, in the order of [`Group::numbers`].
+    pub numbers: Vec<usize>,
+    /// The most that the time of ours may be, as a part of the other's.
+    pub limit: f64,
+    /// Makes the input. It is made late, so that one case at a time holds its memory.
+    pub prepare: Box<dyn FnOnce() -> Box<dyn Pair>>,
+}
+
+pub struct Group {
+    pub name: &'static str,
+    /// The names of the numbers of its cases.
+    pub numbers: &'static str,
+    /// What ours is put beside.
+    pub beside: &'static str,
+    pub cases: Vec<Case>,
+}
+
+/// Every group, in the order of the pages.
+pub fn all(original: Original) -> Vec<Group> {
+    vec![
+        combine::group(original.combine),
+        split::group(original.split),
+    ]
+}
+
+/// Every run has the same inputs.
+const SEED: u64 = 1;
+
+/// Lengths of the secret.
+const LENGTHS: [usize; 2] = [32, 4_096];
+
+/// The count of bytes that an entry says it wrote.
+///
+/// # Panics
+/// Where it refuses: no case here is one to refuse.
+fn count_written(word: u64) -> usize {
+    match Outcome::from_word(word) {
+        Outcome::Done(count) => count,
+        refused => panic!("ours has {refused}"),
+    }
+}

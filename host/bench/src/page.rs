@@ -1,0 +1,61 @@
+//! docs/bench.md: the tables, and how they were measured.
+
+use crate::machine::{ARCHITECTURE, COMPILER, processor};
+use crate::table::Table;
+use crate::timing::{BATCH, FEWEST_ROUNDS, MOST_ROUNDS};
+
+pub fn markdown(tables: &[Table]) -> String {
+    let tables: Vec<String> = tables.iter().map(Table::as_markdown).collect();
+    [INTRODUCTION, &tables.join("\n"), "\n", &how()].concat()
+}
+
+const INTRODUCTION: &str = "\
+# Times
+
+One call of ours beside one of the original (vsss-rs 6.0.1) on the same input, both optimised. \
+The ratio is ours over the original's. L is the length of the secret in bytes, t the threshold, \
+n the count of rows.
+
+![The ratio of each line, with its limit](bench.svg)
+
+";
+
+fn how() -> String {
+    let processor = processor();
+    let batch = BATCH.as_millis();
+    let archive = archive();
+    format!(
+        "\
+## How it was measured
+
+    VSSS_RS_SOURCE=FOLDER host/cargo run --release --offline --manifest-path host/bench/Cargo.toml
+
+writes this page and the plot anew. FOLDER, an absolute path, holds `src/gf256.rs` of the \
+original. The program fails where a ratio is over its limit.
+
+- Processor: {processor}. Compiler of the original and of the calls: {COMPILER}, `--release`.
+- {archive}
+- The answers of both are compared first, and have to be equal.
+- A line has {FEWEST_ROUNDS} to {MOST_ROUNDS} rounds, fewer where a call is long. Each round \
+times a batch of ours, then a batch of the original's, each of as many calls as last about \
+{batch} ms or more. \
+A time is the median of its rounds, by call. The ratio is that of the medians.
+- Ours is called by its C entries. It is lent its memory, which is not cleared between calls.
+- The original is its unchanged text with stand-ins for the crates that it names \
+([host/oracle](../host/oracle/README.md)). It allocates and frees its rows and its secret \
+itself, and reads its coefficients from a script of words in place of a random source. \
+These are in its times.
+"
+    )
+}
+
+/// What ours was compiled by.
+fn archive() -> String {
+    match ARCHITECTURE {
+        "x86_64" => "Ours is the proved archive as the kit makes it.".into(),
+        _ => format!(
+            "Ours: the kit makes x86-64 code. Here the proved module was compiled by the kit's \
+             clang for {ARCHITECTURE} (`host/library`)."
+        ),
+    }
+}

@@ -1,0 +1,268 @@
+/* Calls the two entries under valgrind's memcheck with every secret byte marked undefined. Memcheck
+ * then reports each jump and each address that depends on one. What is public stays defined:
+ * identifiers, lengths, thresholds.
+ *
+ * Memcheck follows the marks, not the values. Without a report the path is the same for every
+ * secret of a shape, so one secret a shape is enough, and the shapes are chosen for the paths:
+ * whole vectors, what is left of them, blocks, many rows, every identifier. */
+#include <stdio.h>
+#include <stdlib.h>
+#include <string.h>
+#include <valgrind/memcheck.h>
+
+#include "vsss.h"
+
+#define COUNT(list) (sizeof(list) / sizeof *(list))
+
+enum { UNTOUCHED = 0xee };
+
+static unsigned splits, combines, refusals;
+
+static void require(int holds, const char *what) {
+    if (holds) return;
+    printf("WRONG: %s (after %u splits, %u combines, %u refusals)\n", what, splits, combines,
+           refusals);
+    exit(1);
+}
+
+/* Inputs */
+
+/* Exactly so many bytes, so that memcheck also sees a read or write beyond them. */
+static uint8_t *bytes(size_t len) {
+    uint8_t *made = malloc(len);
+    require(made != NULL, "there is memory");
+    memset(made, UNTOUCHED, len);
+    return made;
+}
+
+static uint8_t next_byte(void) {
+    static uint32_t state = 1;
+    state = state * 1664525 + 1013904223;
+    return (uint8_t)(state >> 24);
+}
+
+static uint8_t *some_bytes(size_t len) {
+    uint8_t *made = bytes(len);
+    for (size_t i = 0; i < len; i++) made[i] = next_byte();
+    return made;
+}
+
+/* Distinct and not 0: steps of 7 go through all 255. */
+static uint8_t *some_ids(size_t count) {
+    uint8_t *ids = bytes(count);
+    size_t start = next_byte();
+    for (size_t i = 0; i < count; i++) ids[i] = (uint8_t)((start + 7 * i) % 255 + 1);
+    return ids;
+}
+
+static uint8_t *equal_lengths(size_t count, size_t row_len) {
+    uint8_t *lengths = bytes(4 * count);
+    for (size_t i = 0; i < 4 * count; i++) lengths[i] = (uint8_t)(row_len >> 8 * (i % 4));
+    return lengths;
+}
+
+/* Marks */
+
+static void hide(uint8_t *from, size_t len) { (void)VALGRIND_MAKE_MEM_UNDEFINED(from, len); }
+
+static void reveal(uint8_t *from, size_t len) { (void)VALGRIND_MAKE_MEM_DEFINED(from, len); }
+
+/* Whether each of the bytes has these marks: a set bit is undefined. Asking reports nothing. */
+static int marked(const uint8_t *from, size_t len, uint8_t marks) {
+    for (size_t i = 0; i < len; i++) {
+        uint8_t found;
+        if (VALGRIND_GET_VBITS(from + i, &found, 1) != 1 || found != marks) return 0;
+    }
+    return 1;
+}
+
+/* Each bit of a value depends on secret bits, so each must be undefined. Were the marks lost on the
+ * way, nothing would be checked. */
+static int is_secret(const uint8_t *from, size_t len) { return marked(from, len, 0xff); }
+
+static int is_public(const uint8_t *from, size_t len) { return marked(from, len, 0); }
+
+/* The answer may depend on nothing secret: an undefined word is reported here. */
+static uint64_t public_word(uint64_t word) {
+    require(VALGRIND_CHECK_MEM_IS_DEFINED(&word, sizeof word) == 0, "the answer is public");
+    return word;
+}
+
+/* Calls that are done */
+
+static void hide_values(uint8_t *rows, size_t count, size_t row_len) {
+    for (size_t i = 0; i < count; i++) hide(rows + i * row_len + 1, row_len - 1);
+}
+
+static void combine(uint8_t *rows, size_t count, const uint8_t *secret, size_t len) {
+    size_t rows_len = count * (len + 1);
+    uint8_t *lengths = equal_lengths(count, len + 1), *out = bytes(len);
+    hide_values(rows, count, len + 1);
+    uint64_t word =
+        public_word(vsss_combine_bytes(rows, rows_len, lengths, 4 * count, out, len));
+    require(word == len, "a combine is done");
+    require(is_secret(out, len), "what is combined is secret");
+    reveal(out, len);
+    reveal(rows, rows_len);
+    require(memcmp(out, secret, len) == 0, "the rows give the secret back");
+    combines++;
+    free(lengths);
+    free(out);
+}
+
+static void require_rows(const uint8_t *rows, const uint8_t *ids, size_t limit, size_t len) {
+    for (size_t i = 0; i < limit; i++) {
+        const uint8_t *row = rows + i * (len + 1);
+        require(is_public(row, 1) && row[0] == ids[i], "a row starts with its public identifier");
+        require(is_secret(row + 1, len), "the values are secret");
+    }
+}
+
+/* Splits, and combines as few of the rows as may be, and all of them. */
+static void split(size_t threshold, size_t limit, size_t len) {
+    size_t coefficients_len = len * (threshold - 1), rows_len = limit * (len + 1);
+    uint8_t *secret = some_bytes(len), *coefficients = some_bytes(coefficients_len);
+    uint8_t *ids = some_ids(limit), *rows = bytes(rows_len);
+    hide(secret, len);
+    hide(coefficients, coefficients_len);
+    uint64_t word = public_word(vsss_split_bytes(threshold, limit, secret, len, ids, limit,
+                                                 coefficients, coefficients_len, rows, rows_len));
+    require(word == rows_len, "a split is done");
+    require_rows(rows, ids, limit, len);
+    splits++;
+    reveal(secret, len);
+    reveal(rows, rows_len);
+    combine(rows, threshold, secret, len);
+    if (limit > threshold) combine(rows, limit, secret, len);
+    free(secret);
+    free(coefficients);
+    free(ids);
+    free(rows);
+}
+
+/* Calls that are refused, for each reason */
+
+struct split_call {
+    unsigned number;
+    size_t threshold, limit, len, coefficients_len, room;
+    const uint8_t *ids;
+    size_t ids_len;
+};
+
+/* The first row's length may differ from that of the others. */
+struct combine_call {
+    unsigned number;
+    size_t count, first_len, row_len, stored, room;
+    const uint8_t *ids;
+};
+
+static const uint8_t right[] = {7, 1, 9}, zero[] = {7, 1, 0}, twice[] = {1, 7, 9, 7};
+
+static const struct split_call refused_splits[] = {
+    {VSSS_INVALID_SIZE_REQUEST, 2, 256, 20, 20, 63, right, 3},
+    {VSSS_INVALID_SECRET, 2, 3, 0, 20, 63, right, 3},
+    {VSSS_SHARING_LIMIT_LESS_THAN_THRESHOLD, 4, 3, 20, 60, 63, right, 3},
+    {VSSS_SHARING_MIN_THRESHOLD, 1, 3, 20, 20, 63, right, 3},
+    {VSSS_NOT_ENOUGH_SHARE_IDENTIFIERS, 2, 3, 20, 20, 63, right, 2},
+    {VSSS_SHARING_INVALID_IDENTIFIER, 2, 3, 20, 20, 63, zero, 3},
+    {VSSS_TOO_LONG, 2, 3, 4097, 4097, 12294, right, 3},
+    {VSSS_COEFFICIENT_COUNT, 2, 3, 20, 19, 63, right, 3},
+    {VSSS_NO_ROOM, 2, 3, 20, 20, 62, right, 3},
+};
+
+static const struct combine_call refused_combines[] = {
+    {VSSS_ROW_LENGTHS, 3, 21, 21, 62, 20, right},
+    {VSSS_ROW_LENGTHS, 3, 21, 21, 64, 20, right},
+    {VSSS_SHARING_MIN_THRESHOLD, 0, 21, 21, 0, 20, right},
+    {VSSS_SHARING_MIN_THRESHOLD, 1, 21, 21, 21, 20, right},
+    {VSSS_INVALID_SHARE, 3, 1, 21, 43, 20, right},
+    {VSSS_INVALID_SHARE, 3, 20, 21, 62, 20, right},
+    {VSSS_SHARING_INVALID_IDENTIFIER, 3, 21, 21, 63, 20, zero},
+    {VSSS_SHARING_DUPLICATE_IDENTIFIER, 4, 21, 21, 84, 20, twice},
+    {VSSS_TOO_LONG, 3, 4098, 4098, 12294, 4097, right},
+    {VSSS_NO_ROOM, 3, 21, 21, 63, 19, right},
+};
+
+static void require_refused(uint64_t word, unsigned number, const uint8_t *out, size_t room) {
+    require(VSSS_NUMBER(public_word(word)) == number, "a call is refused for its reason");
+    for (size_t i = 0; i < room; i++) require(out[i] == UNTOUCHED, "a refusal writes nothing");
+    refusals++;
+}
+
+static void refuse_split(const struct split_call *c) {
+    uint8_t *secret = some_bytes(c->len), *coefficients = some_bytes(c->coefficients_len);
+    uint8_t *out = bytes(c->room);
+    hide(secret, c->len);
+    hide(coefficients, c->coefficients_len);
+    uint64_t word = vsss_split_bytes(c->threshold, c->limit, secret, c->len, c->ids, c->ids_len,
+                                     coefficients, c->coefficients_len, out, c->room);
+    require_refused(word, c->number, out, c->room);
+    free(secret);
+    free(coefficients);
+    free(out);
+}
+
+/* All is hidden but the identifiers, which are written after. */
+static uint8_t *hidden_rows(const struct combine_call *c) {
+    uint8_t *rows = some_bytes(c->stored);
+    hide(rows, c->stored);
+    for (size_t i = 0; i < c->count; i++) {
+        size_t at = i == 0 ? 0 : c->first_len + (i - 1) * c->row_len;
+        rows[at] = c->ids[i];
+    }
+    return rows;
+}
+
+static void refuse_combine(const struct combine_call *c) {
+    uint8_t *rows = hidden_rows(c), *out = bytes(c->room);
+    uint8_t *lengths = equal_lengths(c->count, c->row_len);
+    if (c->first_len != c->row_len) lengths[0] = (uint8_t)c->first_len;
+    uint64_t word = vsss_combine_bytes(rows, c->stored, lengths, 4 * c->count, out, c->room);
+    require_refused(word, c->number, out, c->room);
+    free(rows);
+    free(lengths);
+    free(out);
+}
+
+/* Shapes */
+
+static void refused_shapes(void) {
+    for (size_t i = 0; i < COUNT(refused_splits); i++) refuse_split(refused_splits + i);
+    for (size_t i = 0; i < COUNT(refused_combines); i++) refuse_combine(refused_combines + i);
+}
+
+static void small_shapes(void) {
+    static const size_t lens[] = {1, 2, 7, 8, 9, 15, 16, 17, 31, 32, 33, 63, 64, 65, 100};
+    for (size_t i = 0; i < COUNT(lens); i++) split(2, 3, lens[i]);
+    split(2, 2, 1);
+    split(3, 5, 33);
+    split(16, 32, 32);
+    split(2, 255, 3);
+}
+
+static void large_shapes(void) {
+    static const size_t lens[] = {1, 15, 16, 17, 31, 32, 33, 100};
+    for (size_t len = 1; len <= 400; len++) split(3, 4, len);
+    for (size_t limit = 2; limit <= 255; limit++) split(limit, limit, 17);
+    for (size_t i = 0; i < COUNT(lens); i++) split(16, 255, lens[i]);
+    split(128, 255, 32);
+    split(255, 255, 3);
+    split(2, 3, 4095);
+    split(2, 255, 4096);
+    split(16, 32, 4096);
+    split(255, 255, 4096);
+}
+
+int main(int argc, char **argv) {
+    int full = argc == 2 && strcmp(argv[1], "full") == 0;
+    int small = argc == 2 && strcmp(argv[1], "small") == 0;
+    if (!(full || small) || !RUNNING_ON_VALGRIND) {
+        fputs("usage: valgrind harness small|full\n", stderr);
+        return 2;
+    }
+    refused_shapes();
+    small_shapes();
+    if (full) large_shapes();
+    printf("%u splits, %u combines, %u refusals, answers right\n", splits, combines, refusals);
+    return 0;
+}

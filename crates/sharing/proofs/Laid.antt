@@ -17,6 +17,7 @@ use Rattle.rows.specs.Search.{sum, allAre, placeOf, firstRepeated, within}
 use Rattle.rows.specs.Storage.{cut, identifiers, values}
 use Rattle.rows.proofs.Search.{place-fresh, repeated-distinct}
 use Rattle.sharing.specs.Limits.{maxSecret}
+use Rattle.sharing.specs.RowSet.{judged}
 use Rattle.sharing.specs.Combine.{combineOutcome, combineAnswer, combineBytes}
 use Rattle.sharing.specs.Demands.{laid}
 
@@ -69,7 +70,7 @@ module _ (l : ℕ) (f : ℕ → List ℕ) (long : (x : ℕ) → length (f x) ≡
     secret-is = omega (arith, first-is)
 
     pub laid-answer : (room : ℕ) → l ≤ room → combineAnswer (laid (rows xs)) lengths room ≡ done l
-    unfolding combineOutcome
+    unfolding combineOutcome judged
     laid-answer room h =
         let ids : identifiers (cut lengths (laid (rows xs))) ≡ xs = ap identifiers (cut-laid (rows xs)) ∙ ids-are xs in
         let count : length lengths ≡ length xs = length-map (rows xs) length ∙ length-map xs (λ x. x ∷ f x) in

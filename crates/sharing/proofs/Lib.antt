@@ -1,9 +1,10 @@
+pub mod Chains
 pub mod SplitRules
 pub mod SplitAccepted
 pub mod SplitRows
 pub mod SplitBytes
-pub mod CombineRules
-pub mod CombineByteLengths
+pub mod RowSet
+pub mod CombineAccepted
 pub mod Laid
 pub mod Places
 pub mod Recovery

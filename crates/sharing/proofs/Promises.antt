@@ -10,6 +10,7 @@ use Rattle.algebra.specs.Field.{power}
 use Rattle.answer.proofs.Meaning.{told}
 use Rattle.gf256.specs.Field256.{mul256, inv256}
 use Rattle.sharing.specs.Split.{splitOutcome, splitBytes}
+use Rattle.sharing.specs.RowSet.{judged}
 use Rattle.sharing.specs.Combine.{combineOutcome, combineBytes}
 use Rattle.sharing.specs.ByteLengths.{byteLengthsAnswer}
 use Rattle.sharing.specs.Promises.{Determined, Independent, ShutOut}
@@ -36,7 +37,7 @@ differ : (i : ℕ) {xs ys : List ℕ} → (getD xs i 0 ≡ getD ys i 0 → ⊥) 
 differ i apart e = apart (ap (λ l. getD l i 0) e)
 
 pub shut-out : ShutOut
-unfolding splitOutcome splitBytes combineOutcome combineBytes zipWith mul256 inv256 power mulMod rem reduce clmul
+unfolding splitOutcome splitBytes judged combineOutcome combineBytes zipWith mul256 inv256 power mulMod rem reduce clmul
 shut-out = record {
   refuses-all = λ number first second left p. let e = p .answers in let z : _≡_ {A = ℕ} 0 1 = cc in omega arith;
   fixed-key = λ a b key p q. differ 0 (λ e. omega arith) (sym (p .leaves) ∙ q .leaves);

@@ -12,6 +12,7 @@ use Rattle.shamir.specs.Lists.{Fresh}
 use Rattle.answer.specs.Outcome.{Outcome, done, refused, refuse}
 use Rattle.sharing.specs.Limits.{maxSecret, maxShares}
 use Rattle.sharing.specs.Split.{inTurn, coefficientCount, splitRoom, splitOutcome}
+use Rattle.sharing.proofs.Chains.{apart, passed}
 use Rattle.sharing.proofs.SplitRules.{afterIds}
 
 -- threshold t, limit n, a secret of l bytes, these identifiers, so many coefficients and so much room; m bytes are written
@@ -27,19 +28,11 @@ pub record Accepted (t n l : ℕ) (ids : List ℕ) (count room m : ℕ) : Type 0
   pub room-enough : splitRoom n l ≤ room
   pub count-is : m ≡ splitRoom n l
 
-apart : {number first second m : ℕ} → refused number first second ≡ done m → ⊥
-apart e = let z : _≡_ {A = ℕ} 0 1 = cc in omega arith
-
--- done: the refusal was not given, and what comes later is done
-passed : (test : Bool) (number place : ℕ) (later : Outcome) (m : ℕ) → refuse test (refused number place 0) later ≡ done m → (test ≡ false) × (later ≡ done m)
-passed true number place later m e = absurd (apart e)
-passed false number place later m e = (refl, e)
-
 passed-ids : (i n : ℕ) (ids : List ℕ) (later : Outcome) (m : ℕ) → inTurn i n ids later ≡ done m → (n ≤ length ids) × Fresh 0 (take n ids) × (later ≡ done m)
 passed-ids i zero ids later m e = (omega arith, tt, e)
 passed-ids i (suc n) [] later m e = absurd (apart e)
 passed-ids i (suc n) (x ∷ ids) later m e =
-    let p = passed (eqb x 0) 6 i (inTurn (suc i) n ids later) m e in
+    let p = passed (eqb x 0) 6 i 0 (inTurn (suc i) n ids later) m e in
     let q = passed-ids (suc i) n ids later m (p .1) in
     (omega arith, (eqb-false x 0 (p .0), q .1), q .2)
 
@@ -47,14 +40,14 @@ module _ (t n l : ℕ) (ids : List ℕ) (count room m : ℕ) where
   pub accepted : splitOutcome t n l ids count room ≡ done m → Accepted t n l ids count room m
   unfolding splitOutcome
   accepted e =
-      let p1 = passed (ltb maxShares n) 1 0 _ m e in
-      let p2 = passed (eqb l 0) 2 0 _ m (p1 .1) in
-      let p3 = passed (ltb n t) 3 0 _ m (p2 .1) in
-      let p4 = passed (ltb t 2) 4 0 _ m (p3 .1) in
+      let p1 = passed (ltb maxShares n) 1 0 0 _ m e in
+      let p2 = passed (eqb l 0) 2 0 0 _ m (p1 .1) in
+      let p3 = passed (ltb n t) 3 0 0 _ m (p2 .1) in
+      let p4 = passed (ltb t 2) 4 0 0 _ m (p3 .1) in
       let p6 = passed-ids 0 n ids (afterIds t n l count room) m (p4 .1) in
-      let p10 = passed (ltb maxSecret l) 10 0 _ m (p6 .2) in
-      let p11 = passed (not (eqb count (coefficientCount t l))) 11 0 _ m (p10 .1) in
-      let p12 = passed (ltb room (splitRoom n l)) 12 0 _ m (p11 .1) in
+      let p10 = passed (ltb maxSecret l) 10 0 0 _ m (p6 .2) in
+      let p11 = passed (not (eqb count (coefficientCount t l))) 11 0 0 _ m (p10 .1) in
+      let p12 = passed (ltb room (splitRoom n l)) 12 0 0 _ m (p11 .1) in
       let some : l ≡ 0 → ⊥ = eqb-false l 0 (p2 .0) in
       record {
         rows-most = ltb-false maxShares n (p1 .0);

@@ -1,5 +1,6 @@
 pub mod Limits
 pub mod Split
+pub mod RowSet
 pub mod Combine
 pub mod ByteLengths
 pub mod Demands

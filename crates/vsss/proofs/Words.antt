@@ -18,8 +18,9 @@ use Rattle.rows.proofs.Search.{repeating-within}
 use Rattle.rows.proofs.Storage.{length-cut}
 use Rattle.sharing.specs.Limits.{maxSecret, maxShares, maxRows}
 use Rattle.sharing.specs.Split.{inTurn, coefficientCount, splitRoom, splitOutcome}
-use Rattle.sharing.specs.Combine.{firstLength, secretLength, combineOutcome}
-use Rattle.sharing.specs.ByteLengths.{unreadable, byteLengthsAnswer}
+use Rattle.sharing.specs.RowSet.{firstLength, secretLength, judged, unreadable}
+use Rattle.sharing.specs.Combine.{combineOutcome}
+use Rattle.sharing.specs.ByteLengths.{byteLengthsAnswer}
 use Rattle.vsss.specs.Words.{Fits, Readable, Determined}
 
 small : (o : Outcome) → Fits o → wordOf o < 2 ^ 64
@@ -70,11 +71,13 @@ fits-split t n l ids count room =
     fits-chain (ltb room (splitRoom n l)) _ _ (λ e. plain 12 (lit< tt) (lit< tt)) (λ e.
     room-small n l (ltb-false maxShares n few) (ltb-false maxSecret l short)))))))))
 
-fits-combine : (stored : ℕ) (lengths ids : List ℕ) (room : ℕ) → length ids ≤ maxRows → Fits (combineOutcome stored lengths ids room)
-unfolding combineOutcome
-fits-combine stored lengths ids room few =
+-- what the checks of rows refuse fits, and so does all where what comes later does for rows that are short enough
+fits-judged : (enough stored : ℕ) (lengths ids : List ℕ) (later : Outcome) → length ids ≤ maxRows → (secretLength lengths ≤ maxSecret → Fits later)
+    → Fits (judged enough stored lengths ids later)
+unfolding judged
+fits-judged enough stored lengths ids later few later-fits =
     fits-chain (not (eqb (sum lengths) stored)) _ _ (λ e. plain 13 (lit< tt) (lit< tt)) (λ e.
-    fits-chain (ltb (length lengths) 2) _ _ (λ e. plain 4 (lit< tt) (lit< tt)) (λ e.
+    fits-chain (ltb (length lengths) enough) _ _ (λ e. plain 4 (lit< tt) (lit< tt)) (λ e.
     fits-chain (ltb (firstLength lengths) 2) _ _ (λ e. plain 8 (lit< tt) (lit< tt)) (λ e.
     fits-chain (not (allAre (firstLength lengths) lengths)) _ _ (λ e. plain 8 (lit< tt) (lit< tt)) (λ e.
     fits-chain (within (firstZero ids) ids) _ _
@@ -82,8 +85,13 @@ fits-combine stored lengths ids room few =
     fits-chain (within (firstRepeated ids) ids) _ _
     (λ e. let h = ltb-true (firstRepeated ids) (length ids) e in ((lit< tt, lit< tt), (omega arith, omega (arith, repeating-within ids h)))) (λ e.
     fits-chain (ltb maxSecret (secretLength lengths)) _ _ (λ e. plain 10 (lit< tt) (lit< tt)) (λ short.
-    fits-chain (ltb room (secretLength lengths)) _ _ (λ e. plain 12 (lit< tt) (lit< tt)) (λ e.
-    omega (arith, ltb-false maxSecret (secretLength lengths) short)))))))))
+    later-fits (ltb-false maxSecret (secretLength lengths) short))))))))
+
+fits-combine : (stored : ℕ) (lengths ids : List ℕ) (room : ℕ) → length ids ≤ maxRows → Fits (combineOutcome stored lengths ids room)
+unfolding combineOutcome
+fits-combine stored lengths ids room few =
+    fits-judged 2 stored lengths ids _ few (λ short.
+    fits-chain (ltb room (secretLength lengths)) _ _ (λ e. plain 12 (lit< tt) (lit< tt)) (λ e. omega arith))
 
 fits-bytes : (s lengths : List ℕ) (room : ℕ) → Fits (byteLengthsAnswer s lengths room)
 unfolding byteLengthsAnswer

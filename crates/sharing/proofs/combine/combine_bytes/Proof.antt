@@ -1,88 +1,47 @@
--- `combine_bytes` meets its contract: each return follows from the tests of the lengths before it, and equal lengths are as many times the first.
+-- `combine_bytes` meets its contract: what the checks refuse is refused, and accepted rows are combined.
 -- Assumes nothing.
-use mathlib.Core.Path.{refl}
-use native.Mathlib.Omega.{arith}
-use lib.ListN.{length, getD}
+use mathlib.Core.Path.{sym, _∙_}
 use borrow.Author.Needs.{needs}
-use Rattle.sharing.proofs.CombineRules.{yes, no, other-sum, too-few, too-short, unequal, fills, of-equal}
+use Rattle.sharing.proofs.Chains.{told-done, told-refused}
+use Rattle.sharing.proofs.RowSet.{accepted-rows}
+use Rattle.sharing.proofs.CombineAccepted.{refuses, combines}
 use Rattle.sharing.proofs.combine.combine_bytes.Statement.{statement}
 use Rattle.sharing.proofs.combine.combine_bytes.Tie as tie
 
-sums-to-requires : tie.Need-sums-to-requires
-sums-to-requires c κs = search needs
+judge-rows-requires : tie.Need-judge-rows-requires
+judge-rows-requires c κs = search needs
+
+enum-known-judged : tie.Need-enum-known-judged
+enum-known-judged c = search needs
+
+enum-told : tie.Need-enum-told
+enum-told c = search needs
 
 returns : tie.Need-returns
 returns c =
-    let a = c .before .before .before .before .before .args in
-    other-sum (a .rows .now) (a .lengths .now) (a .out .now) (no (c .before .sums-to .ensures) (c .if1 .taken))
+    let judged = c .before .before in
+    let a = judged .before .before .before .before .args in
+    refuses (a .rows .now) (a .lengths .now) (a .out .now) (told-refused (c .enum-told .given .1)) (judged .judge-rows .ensures)
 
-returns-2 : tie.Need-returns-2
-returns-2 c =
-    let summed = c .before .before in
-    let a = summed .before .before .before .before .args in
-    too-few (a .rows .now) (a .lengths .now) (a .out .now) (yes (summed .sums-to .ensures) (c .before .if1 .left)) (c .if2 .taken)
-
-shared-slice-read-w : tie.Need-shared-slice-read-w
-shared-slice-read-w c = search needs
-
-returns-3 : tie.Need-returns-3
-returns-3 c =
-    let second = c .before .before in
-    let first = second .before in
-    let summed = first .before in
-    let a = summed .before .before .before .before .args in
-    too-short (a .rows .now) (a .lengths .now) (a .out .now) (yes (summed .sums-to .ensures) (first .if1 .left)) (second .if2 .left) (c .if3 .taken)
-
-all-are-requires : tie.Need-all-are-requires
-all-are-requires c κs = search needs
-
-returns-4 : tie.Need-returns-4
-returns-4 c =
-    let compared = c .before in
-    let third = compared .before in
-    let second = third .before .before in
-    let first = second .before in
-    let summed = first .before in
-    let a = summed .before .before .before .before .args in
-    unequal (a .rows .now) (a .lengths .now) (a .out .now) (yes (summed .sums-to .ensures) (first .if1 .left)) (second .if2 .left) (third .if3 .left)
-    (no (compared .all-are .ensures) (c .if4 .taken))
-
-cast-combine-equal-rows : tie.Need-cast-combine-equal-rows
-cast-combine-equal-rows c = omega (arith, c .before .before .before .shared-slice-known3 .given 0)
-
-combine-equal-rows-requires : tie.Need-combine-equal-rows-requires
-combine-equal-rows-requires c κs =
-    let fourth = c .before in
-    let compared = fourth .before in
-    let first = compared .before .before .before .before in
-    let summed = first .before in
-    let a = summed .before .before .before .before .args in
-    let ns = a .lengths .now in
-    (fills ns (getD ns 0 0) (length ns) (yes (compared .all-are .ensures) (fourth .if4 .left)) refl (length (a .rows .now)) (yes (summed .sums-to .ensures) (first .if1 .left)), omega arith, omega arith)
+combine-accepted-requires : tie.Need-combine-accepted-requires
+combine-accepted-requires c κs =
+    let told = c .before .before in
+    let judged = told .before .before in
+    let a = judged .before .before .before .before .args in
+    accepted-rows 2 (a .rows .now) (a .lengths .now) _ (sym (judged .judge-rows .ensures) ∙ told-done (told .judged .given .1)) .ready
 
 same-length : tie.Need-same-length
 same-length c = search needs
 
-returns-5 : tie.Need-returns-5
-returns-5 c =
+returns-2 : tie.Need-returns-2
+returns-2 c =
     let called = c .before .before in
-    let fourth = called .before .before in
-    let compared = fourth .before in
-    let ns = compared .before .before .before .before .before .before .before .before .before .args .lengths .now in
-    of-equal ns (getD ns 0 0) (length ns) (yes (compared .all-are .ensures) (fourth .if4 .left)) refl (called .combine-equal-rows .ensures)
+    let told = called .before .before .before in
+    let judged = told .before .before in
+    let a = judged .before .before .before .before .args in
+    combines (a .rows .now) (a .lengths .now) (a .out .now) (sym (judged .judge-rows .ensures) ∙ told-done (told .judged .given .1)) (called .combine-accepted .ensures)
 
 pub combine-bytes-spec : {M : Type 1} → statement M
 combine-bytes-spec =
     tie.close
-    (tie.spec
-    sums-to-requires
-    returns
-    returns-2
-    shared-slice-read-w
-    returns-3
-    all-are-requires
-    returns-4
-    cast-combine-equal-rows
-    combine-equal-rows-requires
-    same-length
-    returns-5)
+    (tie.spec judge-rows-requires enum-known-judged enum-told returns combine-accepted-requires same-length returns-2)

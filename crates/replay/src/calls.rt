@@ -147,6 +147,42 @@ fn combine_rows(line: &[u8]) -> Filled {
     combine_lengths(line, &rows[..n])
 }
 
+fn sheet(line: &[u8], rows: &[u8], lengths: &[u8], out: &mut [u8]) -> Filled {
+    let Number::Is(threshold) = parse::number_at(line, 1) else {
+        return Filled::Unreadable;
+    };
+    let word = vsss::vsss_write_sheet(threshold, rows, lengths, out);
+    print::answer(word, out);
+    Filled::Bytes(out.len())
+}
+
+fn sheet_room(line: &[u8], rows: &[u8], lengths: &[u8]) -> Filled {
+    let mut out = output_bytes();
+    let filled = room(line, 4, &out);
+    let Filled::Bytes(n) = filled else {
+        return filled;
+    };
+    sheet(line, rows, lengths, &mut out[..n])
+}
+
+fn sheet_lengths(line: &[u8], rows: &[u8]) -> Filled {
+    let mut lengths = length_bytes();
+    let filled = parse::bytes_at(line, 3, &mut lengths);
+    let Filled::Bytes(n) = filled else {
+        return filled;
+    };
+    sheet_room(line, rows, &lengths[..n])
+}
+
+fn sheet_rows(line: &[u8]) -> Filled {
+    let mut rows = row_bytes();
+    let filled = parse::bytes_at(line, 2, &mut rows);
+    let Filled::Bytes(n) = filled else {
+        return filled;
+    };
+    sheet_lengths(line, &rows[..n])
+}
+
 // Whether the line begins so and has so many spaces.
 fn is_call(line: &[u8], start: &[u8], spaces: usize) -> bool {
     parse::starts_with(line, start) && parse::count(line, b' ') == spaces
@@ -158,6 +194,9 @@ fn answered(line: &[u8]) -> Filled {
     }
     if is_call(line, b"combine ", 3) {
         return combine_rows(line);
+    }
+    if is_call(line, b"sheet ", 4) {
+        return sheet_rows(line);
     }
     Filled::Unreadable
 }

@@ -3,6 +3,7 @@
 // Empty lines and lines that start with # are copied. Every other line is a call, its fields parted by single spaces:
 //   split T N SECRET IDS COEFFICIENTS ROOM
 //   combine ROWS LENGTHS ROOM
+//   sheet T ROWS LENGTHS ROOM
 // T, N and ROOM are hexadecimal numbers below 2^64. The others are byte strings: - is empty, else items joined by +, each of two
 // digits a byte, with * and a hexadecimal count from 1 behind them where they are to be repeated. Digits are in lower case.
 // The output has ROOM bytes, all ee at first. The answer is one of

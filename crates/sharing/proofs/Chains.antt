@@ -1,6 +1,6 @@
 -- A chain of refusals: what it answers where what comes later is done tells what it answers whatever comes later.
 -- Assumes nothing.
-use mathlib.Core.Path.{_≡_, refl, ap, _∙_}
+use mathlib.Core.Path.{_≡_, refl, sym, ap, _∙_}
 use mathlib.Core.Bool.{Bool, true, false}
 use Prim.Native.Nat.{ℕ}
 use native.Mathlib.Omega.{arith}
@@ -36,3 +36,11 @@ then false number first second c = c
 pub passed : (test : Bool) (number first second : ℕ) (later : Outcome) (m : ℕ) → refuse test (refused number first second) later ≡ done m → (test ≡ false) × (later ≡ done m)
 passed true number first second later m e = absurd (apart e)
 passed false number first second later m e = (refl, e)
+
+-- a chain that is done lets each count through, and what comes later is done
+pub through : {f : Outcome → Outcome} → Chain f → (l : ℕ) (later : Outcome) (m : ℕ) → f later ≡ done m → (f (done l) ≡ done l) × (later ≡ done m)
+through {f} c l later m e = pick (f (done l)) refl
+  where
+    pick : (o : Outcome) → f (done l) ≡ o → (f (done l) ≡ done l) × (later ≡ done m)
+    pick (done n) p = let r = c .goes-on l n later p in (p ∙ ap done (sym (r .0)), sym (r .1) ∙ e)
+    pick (refused n i j) p = absurd (apart (sym (c .stops l n i j later p) ∙ e))

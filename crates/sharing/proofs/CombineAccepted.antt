@@ -5,7 +5,7 @@ use mathlib.Core.Bool.{Bool, true, false, cond}
 use mathlib.Core.List.{List}
 use Prim.Native.Nat.{ℕ, _/_}
 use lib.Dec.{ltb}
-use lib.ListN.{length, replicate}
+use lib.ListN.{length}
 use Rattle.answer.specs.Outcome.{Outcome, done, refused, refuse}
 use Rattle.shamir.specs.Rows.{combined}
 use Rattle.gf256.specs.Field256.{gf256}
@@ -17,7 +17,7 @@ use Rattle.sharing.specs.RowSet.{secretLength, judgedRows, judgedByteLen
 use Rattle.sharing.specs.Combine.{combineOutcome, combineAnswer, combineBytes, Combines, CombinesAccepted}
 use Rattle.sharing.specs.ByteLengths.{byteLengthsAnswer, byteLengthsBytes, CombinesByByteLengths}
 use Rattle.sharing.proofs.Chains.{passed}
-use Rattle.sharing.proofs.RowSet.{rows-chain, byte-lengths-chain, AcceptedRows, accepted-rows, accepted-bytes}
+use Rattle.sharing.proofs.RowSet.{rows-chain, accepted-rows}
 
 module _ (s ns out : List ℕ) where
   abbrev room-and-done : Outcome

@@ -133,6 +133,16 @@ module _ (enough : ℕ) (s bytes : List ℕ) (later : Outcome) where
     pub by-lengths : {o : Outcome} → length bytes / 4 ≤ maxRows → o ≡ judgedRows enough s (lengthsOf bytes) later → o ≡ judgedByteLengths enough s bytes later
     by-lengths h e = e ∙ sym (ap (λ b. refuse b (refused 13 0 0) (judgedRows enough s (lengthsOf bytes) later)) (test false (le-ltb maxRows (length bytes / 4) h)))
 
+-- lengths that can be read are whole fours, and not too many
+pub readable : (bytes : List ℕ) → unreadable bytes ≡ false → (length bytes % 4 ≡ 0) × (length bytes / 4 ≤ maxRows)
+readable bytes h =
+    let p = both (eqb (length bytes % 4) 0) h in
+    (eqb-true (length bytes % 4) 0 (p .0), ltb-false maxRows (length bytes / 4) (p .1))
+  where
+    both : (b : Bool) → (not b || ltb maxRows (length bytes / 4)) ≡ false → (b ≡ true) × (ltb maxRows (length bytes / 4) ≡ false)
+    both true e = (refl, e)
+    both false e = absurd (let z : _≡_ {A = ℕ} 0 1 = cc in omega arith)
+
 -- ---- accepted rows
 
 -- the checks are a chain of refusals

@@ -1,7 +1,7 @@
 -- An accepted split: what its rules have let pass.
 -- Assumes nothing.
-use mathlib.Core.Path.{_≡_, sym, refl}
-use mathlib.Core.Bool.{Bool, true, false, not}
+use mathlib.Core.Path.{_≡_, sym}
+use mathlib.Core.Bool.{not}
 use mathlib.Core.List.{List, [], _∷_}
 use Prim.Native.Nat.{ℕ, zero, suc, _<_, _≤_}
 use native.Mathlib.Omega.{arith}
@@ -9,7 +9,7 @@ use borrow.Author.Tests.{ltb-false, eqb-false, eqb-true, not-false}
 use lib.Dec.{eqb, ltb}
 use lib.ListN.{length, take}
 use Rattle.shamir.specs.Lists.{Fresh}
-use Rattle.answer.specs.Outcome.{Outcome, done, refused, refuse}
+use Rattle.answer.specs.Outcome.{Outcome, done}
 use Rattle.sharing.specs.Limits.{maxSecret, maxShares}
 use Rattle.sharing.specs.Split.{inTurn, coefficientCount, splitRoom, splitOutcome}
 use Rattle.sharing.proofs.Chains.{apart, passed}

@@ -9,7 +9,7 @@ use Rattle.answer.specs.Outcome.{Outcome, done, refused}
 abbrev pub maxSecret : ℕ
 maxSecret = 4096
 
--- the most rows that a split makes: more is refusal 1
+-- the most rows that a split makes, and the highest threshold of a sheet: more is refusal 1
 abbrev pub maxShares : ℕ
 maxShares = 255
 

@@ -1,5 +1,4 @@
 // Rows are combined into the secret: once they are judged, the room for it, and then the values at 0.
-ghost use mathlib.Core.Path.{_≡_};
 ghost use Prim.Native.Nat.{_+_};
 ghost use Rattle.answer.specs.Answers.{answerOf};
 ghost use Rattle.rows.specs.Combining.{Ready};
@@ -26,7 +25,7 @@ fn combine_accepted(rows: &[u8], m: usize, l: usize, out: &mut [u8]) -> Answer
 pub fn combine_bytes(rows: &[u8], lengths: &[u32], out: &mut [u8]) -> Answer
     ensures { λ r. ⌜ Combines (now (rows .entry)) (now (lengths .entry)) (now (out .entry)) (answerOf r) (now (out .exit)) ⌝ }
 {
-    let judged = judge_rows(rows, lengths, 2);
+    let judged = judge_rows(rows, lengths, 1);
     let Answer::Done(l) = judged else {
         return judged;
     };
@@ -37,7 +36,7 @@ pub fn combine_bytes(rows: &[u8], lengths: &[u32], out: &mut [u8]) -> Answer
 pub fn combine_bytes_by_byte_lengths(rows: &[u8], lengths: &[u8], out: &mut [u8]) -> Answer
     ensures { λ r. ⌜ CombinesByByteLengths (now (rows .entry)) (now (lengths .entry)) (now (out .entry)) (answerOf r) (now (out .exit)) ⌝ }
 {
-    let judged = judge_rows_by_byte_lengths(rows, lengths, 2);
+    let judged = judge_rows_by_byte_lengths(rows, lengths, 1);
     let Answer::Done(l) = judged else {
         return judged;
     };

@@ -1,4 +1,4 @@
-// Shamir's sharing of byte strings: split and combine, with the rules of document 01.
+// Shamir's sharing of byte strings: the checks of row sets, split and combine, with the rules of document 01.
 mod combine;
 mod limits;
 mod row_set;

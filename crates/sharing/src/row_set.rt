@@ -1,6 +1,6 @@
 // The checks that every use of a set of rows begins with: done with the length of a row's values, or the first refusal up to 10.
 ghost use mathlib.Core.Path.{_≡_};
-ghost use Prim.Native.Nat.{_*_, _-_, _<_};
+ghost use Prim.Native.Nat.{suc, _*_, _-_, _<_};
 ghost use lib.ListN.{length};
 ghost use Rattle.answer.specs.Outcome.{done};
 ghost use Rattle.answer.specs.Answers.{answerOf};
@@ -33,16 +33,15 @@ fn judge_equal_rows(rows: &[u8], w: usize, m: usize) -> Answer
     Answer::Done(l)
 }
 
-// Of rows that lie one after another and have these lengths, where so many are enough.
-pub fn judge_rows(rows: &[u8], lengths: &[u32], enough: usize) -> Answer
-    requires { ⌜ 0 < enough ⌝ }
-    ensures { λ r. ⌜ answerOf r ≡ judgedRows enough (now (rows .entry)) (now (lengths .entry)) (done (secretLength (now (lengths .entry)))) ⌝ }
+// Of rows that lie one after another and have these lengths, where so many are too few.
+pub fn judge_rows(rows: &[u8], lengths: &[u32], too_few: usize) -> Answer
+    ensures { λ r. ⌜ answerOf r ≡ judgedRows (suc «too_few») (now (rows .entry)) (now (lengths .entry)) (done (secretLength (now (lengths .entry)))) ⌝ }
 {
     if !rows::sums_to(lengths, rows.len()) {
         return Answer::Refused(Reason::RowLengths);
     }
     let m = lengths.len();
-    if m < enough {
+    if m <= too_few {
         return Answer::Refused(Reason::SharingMinThreshold);
     }
     let w = lengths[0];
@@ -56,15 +55,14 @@ pub fn judge_rows(rows: &[u8], lengths: &[u32], enough: usize) -> Answer
 }
 
 // As judge_rows, for lengths that are read where they lie as bytes, so that few rows cost little.
-fn judge_reading_lengths(rows: &[u8], bytes: &[u8], enough: usize) -> Answer
-    requires { ⌜ 0 < enough ⌝ }
-    ensures { λ r. ⌜ answerOf r ≡ judgedRows enough (now (rows .entry)) (lengthsOf (now (bytes .entry))) (done (secretLength (lengthsOf (now (bytes .entry))))) ⌝ }
+fn judge_reading_lengths(rows: &[u8], bytes: &[u8], too_few: usize) -> Answer
+    ensures { λ r. ⌜ answerOf r ≡ judgedRows (suc «too_few») (now (rows .entry)) (lengthsOf (now (bytes .entry))) (done (secretLength (lengthsOf (now (bytes .entry))))) ⌝ }
 {
     if !rows::byte_lengths_sum_to(bytes, rows.len()) {
         return Answer::Refused(Reason::RowLengths);
     }
     let m = bytes.len() / 4;
-    if m < enough {
+    if m <= too_few {
         return Answer::Refused(Reason::SharingMinThreshold);
     }
     let w = rows::length_at(bytes, 0);
@@ -78,9 +76,8 @@ fn judge_reading_lengths(rows: &[u8], bytes: &[u8], enough: usize) -> Answer
 }
 
 // The same for the host, from which the lengths come as bytes, four a row, least first.
-pub fn judge_rows_by_byte_lengths(rows: &[u8], lengths: &[u8], enough: usize) -> Answer
-    requires { ⌜ 0 < enough ⌝ }
-    ensures { λ r. ⌜ answerOf r ≡ judgedByteLengths enough (now (rows .entry)) (now (lengths .entry)) (done (secretLength (lengthsOf (now (lengths .entry))))) ⌝ }
+pub fn judge_rows_by_byte_lengths(rows: &[u8], lengths: &[u8], too_few: usize) -> Answer
+    ensures { λ r. ⌜ answerOf r ≡ judgedByteLengths (suc «too_few») (now (rows .entry)) (now (lengths .entry)) (done (secretLength (lengthsOf (now (lengths .entry))))) ⌝ }
 {
     let odd = lengths.len() % 4;
     if odd != 0 {
@@ -90,5 +87,5 @@ pub fn judge_rows_by_byte_lengths(rows: &[u8], lengths: &[u8], enough: usize) ->
     if MAX_ROWS < m {
         return Answer::Refused(Reason::RowLengths);
     }
-    judge_reading_lengths(rows, lengths, enough)
+    judge_reading_lengths(rows, lengths, too_few)
 }

@@ -1,15 +1,16 @@
 -- The outcomes of the entries fit their words, and the words tell them apart.
 -- Assumes nothing.
-use mathlib.Core.Path.{_≡_, refl, sym, ap, _∙_}
-use mathlib.Core.Bool.{Bool, true, false, not, _||_}
+use mathlib.Core.Path.{_≡_, refl, sym, ap, ap₂, _∙_, subst}
+use mathlib.Core.Bool.{Bool, true, false, not}
 use mathlib.Core.List.{List, [], _∷_}
-use Prim.Native.Nat.{ℕ, zero, suc, _+_, _*_, _/_, _%_, _^_, _<_, _≤_}
+use Prim.Native.Nat.{ℕ, zero, suc, _+_, _*_, _/_, _^_, _<_, _≤_}
 use native.Mathlib.Nat.{mul-le-mul-right}
 use native.Mathlib.Omega.{arith}
 use lib.Dec.{eqb, ltb, lit<}
-use lib.ListN.{length, getD, length-map}
+use lib.ListN.{length, getD, replicate, length-map}
 use borrow.Author.Tests.{ltb-true, ltb-false}
 use Rattle.answer.specs.Outcome.{Outcome, done, refused, refuse, wordOf}
+use Rattle.shamir.specs.Lists.{Below}
 use Rattle.rows.specs.Search.{sum, allAre, firstZero, firstRepeated, within}
 use Rattle.rows.specs.Storage.{cut, identifiers}
 use Rattle.rows.specs.Lengths.{lengthsOf}
@@ -21,6 +22,11 @@ use Rattle.sharing.specs.Split.{inTurn, coefficientCount, splitRoom, splitOutco
 use Rattle.sharing.specs.RowSet.{firstLength, secretLength, judged, unreadable}
 use Rattle.sharing.specs.Combine.{combineOutcome}
 use Rattle.sharing.specs.ByteLengths.{byteLengthsAnswer}
+use Rattle.sharing.proofs.Chains.{Chain, passed}
+use Rattle.sharing.proofs.RowSet.{byte-lengths-chain, accepted-bytes}
+use Rattle.sharing.proofs.RowSet as row-set
+use Rattle.sheets.specs.Sheet.{sheet, sheetText, sheetAnswer}
+use Rattle.sheets.proofs.PutRows.{sheet-short}
 use Rattle.vsss.specs.Words.{Fits, Readable, Determined}
 
 small : (o : Outcome) → Fits o → wordOf o < 2 ^ 64
@@ -93,24 +99,48 @@ fits-combine stored lengths ids room few =
     fits-judged 2 stored lengths ids _ few (λ short.
     fits-chain (ltb room (secretLength lengths)) _ _ (λ e. plain 12 (lit< tt) (lit< tt)) (λ e. omega arith))
 
+-- as many identifiers as lengths, so not too many where the lengths can be read
+few-ids : (s lengths : List ℕ) → unreadable lengths ≡ false → length (identifiers (cut (lengthsOf lengths) s)) ≤ maxRows
+few-ids s lengths e =
+    let ns = lengthsOf lengths in
+    let count : length (identifiers (cut ns s)) ≡ length lengths / 4 = length-map (cut ns s) (λ r. getD r 0 0) ∙ length-cut ns s ∙ length-lengths lengths in
+    omega (arith, count, row-set.readable lengths e .1)
+
 fits-bytes : (s lengths : List ℕ) (room : ℕ) → Fits (byteLengthsAnswer s lengths room)
 unfolding byteLengthsAnswer
 fits-bytes s lengths room =
-    let ns = lengthsOf lengths in
-    let ids = identifiers (cut ns s) in
-    let count : length ids ≡ length lengths / 4 = length-map (cut ns s) (λ r. getD r 0 0) ∙ length-cut ns s ∙ length-lengths lengths in
     fits-chain (unreadable lengths) _ _ (λ e. plain 13 (lit< tt) (lit< tt)) (λ e.
-    fits-combine (length s) ns ids room (omega (arith, ltb-false maxRows (length lengths / 4) (second e))))
+    fits-combine (length s) (lengthsOf lengths) (identifiers (cut (lengthsOf lengths) s)) room (few-ids s lengths e))
+
+-- a chain fits where its refusals do, and what comes later does where it is reached
+fits-later : {f : Outcome → Outcome} → Chain f → (l : ℕ) (later : Outcome) → Fits (f (done l)) → ((n : ℕ) → f (done l) ≡ done n → Fits later) → Fits (f later)
+fits-later {f} c l later refusals later-fits = pick (f (done l)) refl refusals
   where
-    second : unreadable lengths ≡ false → ltb maxRows (length lengths / 4) ≡ false
-    second e = or-false (not (eqb (length lengths % 4) 0)) (ltb maxRows (length lengths / 4)) e
-      where
-        or-false : (a b : Bool) → (a || b) ≡ false → b ≡ false
-        or-false true b e = absurd (let z : _≡_ {A = ℕ} 0 1 = cc in omega arith)
-        or-false false b e = e
+    pick : (o : Outcome) → f (done l) ≡ o → Fits o → Fits (f later)
+    pick (done n) e fits = subst Fits (sym (c .goes-on l n later e .1)) (later-fits n e)
+    pick (refused n i j) e fits = subst Fits (sym (c .stops l n i j later e)) fits
+
+fits-sheet : (t : ℕ) (s lengths : List ℕ) (room : ℕ) → Below 256 s → Fits (sheetAnswer t s lengths room)
+unfolding sheetAnswer
+fits-sheet t s lengths room bytes =
+    let ns = lengthsOf lengths in
+    let l = secretLength ns in
+    fits-later (byte-lengths-chain 1 s lengths) l _
+    (fits-chain (unreadable lengths) _ _ (λ e. plain 13 (lit< tt) (lit< tt)) (λ e.
+    fits-judged 1 (length s) ns (identifiers (cut ns s)) (done l) (few-ids s lengths e) (λ short. omega arith)))
+    (λ n e.
+    let k = accepted-bytes 1 s lengths n e in
+    let few = row-set.readable lengths (passed (unreadable lengths) 13 0 0 _ n e .0) .1 in
+    let text : sheet t n (cut (replicate (length lengths / 4) (n + 1)) s) ≡ sheetText t s lengths =
+    ap₂ (λ v r. sheet t v (cut r s)) (sym (k .value-count)) (sym (k .lengths-are)) in
+    fits-chain (ltb t 2) _ _ (λ e. plain 4 (lit< tt) (lit< tt)) (λ e.
+    fits-chain (ltb maxShares t) _ _ (λ e. plain 1 (lit< tt) (lit< tt)) (λ high.
+    fits-chain (ltb room (length (sheetText t s lengths))) _ _ (λ e. plain 12 (lit< tt) (lit< tt)) (λ e.
+    subst (λ x. length x < 2 ^ 40) text
+    (sheet-short t n (length lengths / 4) s (ltb-false maxShares t high) few (k .most) (omega (arith, k .filled)) bytes)))))
 
 pub readable : Readable
-readable = record { small = small; told = told; split = fits-split; combine = fits-bytes }
+readable = record { small = small; told = told; split = fits-split; combine = fits-bytes; sheet = fits-sheet }
 
 -- the words of the entries, as their code asks for them
 pub split-word : (t n l : ℕ) (ids : List ℕ) (count room : ℕ) → wordOf (splitOutcome t n l ids count room) < 2 ^ 64
@@ -118,6 +148,13 @@ split-word t n l ids count room = small (splitOutcome t n l ids count room) (fit
 
 pub combine-word : (s lengths : List ℕ) (room : ℕ) → wordOf (byteLengthsAnswer s lengths room) < 2 ^ 64
 combine-word s lengths room = small (byteLengthsAnswer s lengths room) (fits-bytes s lengths room)
+
+pub sheet-word : (t : ℕ) (s lengths : List ℕ) (room : ℕ) → ((i : ℕ) → getD s i 0 < 256) → wordOf (sheetAnswer t s lengths room) < 2 ^ 64
+sheet-word t s lengths room bytes = small (sheetAnswer t s lengths room) (fits-sheet t s lengths room (all s bytes))
+  where
+    all : (xs : List ℕ) → ((i : ℕ) → getD xs i 0 < 256) → Below 256 xs
+    all [] h = tt
+    all (x ∷ xs) h = (h 0, all xs (λ i. h (suc i)))
 
 pub determined : Determined
 determined outcome bytes left right w v p q = (p .answers ∙ sym (q .answers), p .leaves ∙ sym (q .leaves))

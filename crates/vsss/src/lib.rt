@@ -6,6 +6,7 @@ ghost use Rattle.answer.specs.Outcome.{wordOf};
 ghost use Rattle.answer.specs.Answers.{answerOf};
 ghost use Rattle.sharing.specs.Split.{splitOutcome, splitBytes};
 ghost use Rattle.sharing.specs.ByteLengths.{byteLengthsAnswer, byteLengthsBytes};
+ghost use Rattle.sheets.specs.Sheet.{sheetAnswer, sheetBytes};
 ghost use Rattle.vsss.specs.Words.{Gives};
 use answer::Answer;
 
@@ -56,4 +57,19 @@ pub extern "C" fn vsss_combine_bytes(rows: &[u8], lengths: &[u8], out: &mut [u8]
         r (now (out .exit)) ⌝ }
 {
     word(sharing::combine_bytes_by_byte_lengths(rows, lengths, out))
+}
+
+#[no_mangle]
+pub extern "C" fn vsss_write_sheet(
+    threshold: usize,
+    rows: &[u8],
+    lengths: &[u8],
+    out: &mut [u8],
+) -> u64
+    ensures { λ r. ⌜ Gives
+        (sheetAnswer threshold (now (rows .entry)) (now (lengths .entry)) (length (now (out .entry))))
+        (sheetBytes threshold (now (rows .entry)) (now (lengths .entry)) (now (out .entry)))
+        r (now (out .exit)) ⌝ }
+{
+    word(sheets::write_sheet(threshold, rows, lengths, out))
 }

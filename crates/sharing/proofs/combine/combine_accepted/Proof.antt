@@ -1,13 +1,12 @@
 -- `combine_accepted` meets its contract: the room is tested, and then `combine_rows` writes.
 -- Assumes nothing.
-use mathlib.Core.Path.{_≡_, refl, sym, ap, ap₂, _∙_, subst}
+use mathlib.Core.Path.{refl, sym, ap, _∙_, subst}
 use mathlib.Core.List.{_++_}
 use Prim.Native.Nat.{_+_}
 use lib.ListN.{drop, replicate}
 use lib.Seq.{length-take-le}
 use borrow.Author.Needs.{needs}
 use borrow.Author.Tests.{lt-ltb, le-ltb}
-use Rattle.answer.specs.Outcome.{done, refused, refuse}
 use Rattle.gf256.specs.Field256.{gf256}
 use Rattle.shamir.specs.Rows.{combined}
 use Rattle.strides.specs.Strides.{strided}

@@ -1,9 +1,7 @@
 -- `judge_equal_rows` meets its contract: each return follows from the searches and tests before it.
 -- Assumes nothing.
-use mathlib.Core.Path.{sym}
 use Prim.Native.Nat.{_-_}
 use native.Mathlib.Omega.{arith}
-use lib.Seq.{length-take-le}
 use borrow.Author.Needs.{needs}
 use Rattle.sharing.proofs.RowSet.{zero-found, repeat-found, too-long, all-well}
 use Rattle.sharing.proofs.row_set.judge_equal_rows.Statement.{statement}

@@ -1,7 +1,7 @@
 -- `judge_reading_lengths` meets its contract: as that of `judge_rows`, with lengths from their bytes.
 -- Assumes nothing.
 use mathlib.Core.Path.{sym, ap, _∙_}
-use Prim.Native.Nat.{_/_}
+use Prim.Native.Nat.{suc, _/_}
 use native.Mathlib.Omega.{arith}
 use lib.ListN.{length}
 use borrow.Author.Needs.{needs}
@@ -19,7 +19,7 @@ returns : tie.Need-returns
 returns c =
     let summed = c .before in
     let a = summed .before .before .before .args in
-    other-sum (a .enough) (a .rows .now) (lengthsOf (a .bytes .now)) _ (no (summed .byte-lengths-sum-to .ensures) (c .if1 .taken))
+    other-sum (suc (a .too-few)) (a .rows .now) (lengthsOf (a .bytes .now)) _ (no (summed .byte-lengths-sum-to .ensures) (c .if1 .taken))
 
 returns-2 : tie.Need-returns-2
 returns-2 c =
@@ -27,7 +27,7 @@ returns-2 c =
     let summed = first .before in
     let a = summed .before .before .before .args in
     let count = length-lengths (a .bytes .now) in
-    too-few (a .enough) (a .rows .now) (lengthsOf (a .bytes .now)) _ (yes (summed .byte-lengths-sum-to .ensures) (first .if1 .left)) (omega arith)
+    too-few (suc (a .too-few)) (a .rows .now) (lengthsOf (a .bytes .now)) _ (yes (summed .byte-lengths-sum-to .ensures) (first .if1 .left)) (omega arith)
 
 length-at-requires : tie.Need-length-at-requires
 length-at-requires c κs = search needs
@@ -39,7 +39,7 @@ returns-3 c =
     let summed = first .before in
     let a = summed .before .before .before .args in
     let count = length-lengths (a .bytes .now) in
-    too-short (a .enough) (a .rows .now) (lengthsOf (a .bytes .now)) _ (yes (summed .byte-lengths-sum-to .ensures) (first .if1 .left)) (omega arith)
+    too-short (suc (a .too-few)) (a .rows .now) (lengthsOf (a .bytes .now)) _ (yes (summed .byte-lengths-sum-to .ensures) (first .if1 .left)) (omega arith)
     (omega (arith, read .length-at .ensures, c .if3 .taken))
 
 byte-lengths-are-requires : tie.Need-byte-lengths-are-requires
@@ -56,7 +56,7 @@ returns-4 c =
     let ns = lengthsOf (a .bytes .now) in
     let count = length-lengths (a .bytes .now) in
     let w = read .length-at .ensures in
-    unequal (a .enough) (a .rows .now) ns _ (yes (summed .byte-lengths-sum-to .ensures) (first .if1 .left)) (omega arith) (omega (arith, w, third .if3 .left))
+    unequal (suc (a .too-few)) (a .rows .now) ns _ (yes (summed .byte-lengths-sum-to .ensures) (first .if1 .left)) (omega arith) (omega (arith, w, third .if3 .left))
     (ap (λ v. allAre v ns) (sym w) ∙ no (compared .byte-lengths-are .ensures) (c .if4 .taken))
 
 cast-judge-equal-rows : tie.Need-cast-judge-equal-rows
@@ -85,7 +85,7 @@ returns-5 c =
     let a = summed .before .before .before .args in
     let bs = a .bytes .now in
     let count = length-lengths bs in
-    of-equal (a .enough) (a .rows .now) (lengthsOf bs) (read .length-at .result) (length bs / 4) (yes (summed .byte-lengths-sum-to .ensures) (first .if1 .left))
+    of-equal (suc (a .too-few)) (a .rows .now) (lengthsOf bs) (read .length-at .result) (length bs / 4) (yes (summed .byte-lengths-sum-to .ensures) (first .if1 .left))
     (omega arith) (third .if3 .left) (yes (compared .byte-lengths-are .ensures) (fourth .if4 .left)) count (sym (read .length-at .ensures)) (c .judge-equal-rows .ensures)
 
 pub judge-reading-lengths-spec : {M : Type 1} → statement M

@@ -1,6 +1,7 @@
 -- `judge_rows` meets its contract: each return follows from the tests of the lengths before it.
 -- Assumes nothing.
 use mathlib.Core.Path.{refl}
+use Prim.Native.Nat.{suc}
 use native.Mathlib.Omega.{arith}
 use lib.ListN.{length, getD}
 use borrow.Author.Needs.{needs}
@@ -14,13 +15,13 @@ sums-to-requires c κs = search needs
 returns : tie.Need-returns
 returns c =
     let a = c .before .before .before .before .args in
-    other-sum (a .enough) (a .rows .now) (a .lengths .now) _ (no (c .before .sums-to .ensures) (c .if1 .taken))
+    other-sum (suc (a .too-few)) (a .rows .now) (a .lengths .now) _ (no (c .before .sums-to .ensures) (c .if1 .taken))
 
 returns-2 : tie.Need-returns-2
 returns-2 c =
     let summed = c .before .before in
     let a = summed .before .before .before .args in
-    too-few (a .enough) (a .rows .now) (a .lengths .now) _ (yes (summed .sums-to .ensures) (c .before .if1 .left)) (c .if2 .taken)
+    too-few (suc (a .too-few)) (a .rows .now) (a .lengths .now) _ (yes (summed .sums-to .ensures) (c .before .if1 .left)) (omega (arith, c .if2 .taken))
 
 shared-slice-read-w : tie.Need-shared-slice-read-w
 shared-slice-read-w c = search needs
@@ -31,7 +32,7 @@ returns-3 c =
     let first = second .before in
     let summed = first .before in
     let a = summed .before .before .before .args in
-    too-short (a .enough) (a .rows .now) (a .lengths .now) _ (yes (summed .sums-to .ensures) (first .if1 .left)) (second .if2 .left) (c .if3 .taken)
+    too-short (suc (a .too-few)) (a .rows .now) (a .lengths .now) _ (yes (summed .sums-to .ensures) (first .if1 .left)) (second .if2 .left) (c .if3 .taken)
 
 all-are-requires : tie.Need-all-are-requires
 all-are-requires c κs = search needs
@@ -44,7 +45,7 @@ returns-4 c =
     let first = second .before in
     let summed = first .before in
     let a = summed .before .before .before .args in
-    unequal (a .enough) (a .rows .now) (a .lengths .now) _ (yes (summed .sums-to .ensures) (first .if1 .left)) (second .if2 .left) (third .if3 .left)
+    unequal (suc (a .too-few)) (a .rows .now) (a .lengths .now) _ (yes (summed .sums-to .ensures) (first .if1 .left)) (second .if2 .left) (third .if3 .left)
     (no (compared .all-are .ensures) (c .if4 .taken))
 
 cast-judge-equal-rows : tie.Need-cast-judge-equal-rows
@@ -69,7 +70,7 @@ returns-5 c =
     let summed = first .before in
     let a = summed .before .before .before .args in
     let ns = a .lengths .now in
-    of-equal (a .enough) (a .rows .now) ns (getD ns 0 0) (length ns) (yes (summed .sums-to .ensures) (first .if1 .left)) (second .if2 .left) (third .if3 .left)
+    of-equal (suc (a .too-few)) (a .rows .now) ns (getD ns 0 0) (length ns) (yes (summed .sums-to .ensures) (first .if1 .left)) (second .if2 .left) (third .if3 .left)
     (yes (compared .all-are .ensures) (fourth .if4 .left)) refl refl (c .judge-equal-rows .ensures)
 
 pub judge-rows-spec : {M : Type 1} → statement M

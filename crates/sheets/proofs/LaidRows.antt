@@ -1,0 +1,54 @@
+-- Rows laid together, with their lengths as bytes, can be cut apart again.
+-- Assumes nothing.
+use mathlib.Core.Path.{_≡_, refl, sym, ap, ap₂, _∙_}
+use mathlib.Core.List.{List, [], _∷_, map}
+use Prim.Native.Nat.{ℕ, _+_, _*_, _/_, _%_, _^_, _<_}
+use native.Mathlib.Omega.{arith}
+use lib.ListN.{length, length-append}
+use lib.Seq.{take-at, drop-at}
+use Rattle.shamir.specs.Lists.{All, Below}
+use Rattle.shamir.proofs.Lists.{all-append}
+use Rattle.rows.specs.Search.{sum}
+use Rattle.rows.specs.Storage.{cut}
+use Rattle.rows.specs.Lengths.{four, fours, lengthsOf}
+use Rattle.sharing.specs.Demands.{laid}
+use Rattle.sheets.proofs.LengthBytes.{lengthBytes}
+
+pub cut-laid : (rows : List (List ℕ)) → cut (map length rows) (laid rows) ≡ rows
+cut-laid [] = refl
+cut-laid (r ∷ rows) =
+    ap₂ (λ a b. a ∷ cut (map length rows) b) (take-at r (laid rows) (length r) refl) (drop-at r (laid rows) (length r) refl)
+    ∙ ap (r ∷_) (cut-laid rows)
+
+pub sum-laid : (rows : List (List ℕ)) → sum (map length rows) ≡ length (laid rows)
+sum-laid [] = refl
+sum-laid (r ∷ rows) = ap (length r +_) (sum-laid rows) ∙ sym (length-append r (laid rows))
+
+pub below-laid : (n : ℕ) (rows : List (List ℕ)) → All (Below n) rows → Below n (laid rows)
+below-laid n [] h = tt
+below-laid n (r ∷ rows) h = all-append (_< n) r (laid rows) (h .0) (below-laid n rows (h .1))
+
+-- ---- their lengths
+
+four-of : (n : ℕ) → four (n % 2 ^ 8) (n / 2 ^ 8 % 2 ^ 8) (n / 2 ^ 16 % 2 ^ 8) (n / 2 ^ 24) ≡ n
+four-of n = omega arith
+
+pub length-length-bytes : (ns : List ℕ) → length (lengthBytes ns) ≡ length ns * 4
+length-length-bytes [] = omega arith
+length-length-bytes (n ∷ ns) = omega (arith, length-length-bytes ns)
+
+fours-of : (ns : List ℕ) → fours (length ns) (lengthBytes ns) ≡ ns
+fours-of [] = refl
+fours-of (n ∷ ns) = ap₂ _∷_ (four-of n) (fours-of ns)
+
+pub lengths-of : (ns : List ℕ) → lengthsOf (lengthBytes ns) ≡ ns
+unfolding lengthsOf
+lengths-of ns =
+    let count : length (lengthBytes ns) / 4 ≡ length ns = omega (arith, length-length-bytes ns) in
+    ap (λ m. fours m (lengthBytes ns)) count ∙ fours-of ns
+
+pub below-length-bytes : (ns : List ℕ) → Below (2 ^ 32) ns → Below 256 (lengthBytes ns)
+below-length-bytes [] h = tt
+below-length-bytes (n ∷ ns) h =
+    let l = h .0 in
+    (omega arith, (omega arith, (omega arith, (omega arith, below-length-bytes ns (h .1)))))

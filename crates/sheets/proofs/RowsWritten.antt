@@ -1,0 +1,108 @@
+-- The text of a first line in range and of as many rows with different identifiers is a sheet: the writer accepts them laid together.
+-- Assumes nothing.
+use mathlib.Core.Path.{_≡_, refl, sym, ap, ap₂, _∙_}
+use mathlib.Core.Bool.{true, false, _&&_}
+use mathlib.Core.List.{List, [], _∷_, map}
+use Prim.Native.Nat.{ℕ, _+_, _*_, _-_, _^_, _<_}
+use native.Mathlib.Nat.{le-refl}
+use native.Mathlib.Omega.{arith}
+use lib.Dec.{eqb, ltb}
+use lib.ListN.{length, getD, length-map}
+use borrow.Author.Tests.{eq-eqb, le-ltb}
+use Rattle.answer.specs.Outcome.{Outcome, done}
+use Rattle.shamir.specs.Lists.{All, Below, Fresh, Distinct}
+use Rattle.shamir.proofs.Lists.{all-map, all-both}
+use Rattle.rows.specs.Search.{sum, allAre, firstRepeated, placeOf, within}
+use Rattle.rows.specs.Storage.{cut, identifiers}
+use Rattle.rows.proofs.Search.{place-fresh, repeated-distinct}
+use Rattle.sharing.specs.Limits.{maxSecret, maxShares}
+use Rattle.sharing.specs.RowSet.{secretLength, judged, judgedRows}
+use Rattle.sharing.specs.Demands.{laid}
+use Rattle.sharing.proofs.RowSet.{by-lengths}
+use Rattle.sheets.specs.Sheet.{sheet, sheetText, judgedThreshold, sheetAnswer}
+use Rattle.sheets.specs.Unsheet.{SheetOf}
+use Rattle.sheets.proofs.LengthBytes.{lengthBytes}
+use Rattle.sheets.proofs.RightLines.{Head, Row}
+use Rattle.sheets.proofs.LaidRows.{cut-laid, sum-laid, below-laid, length-length-bytes, lengths-of, below-length-bytes}
+
+-- rows of l values each, with different identifiers
+pub record Rows (l : ℕ) (rows : List (List ℕ)) : Type 0 where
+  pub each : All (Row l) rows
+  pub distinct : Distinct (identifiers rows)
+
+module _ (l : ℕ) where
+  first-long : (rows : List (List ℕ)) → 0 < length rows → All (Row l) rows → getD (map length rows) 0 0 ≡ l + 1
+  first-long [] h k = absurd (omega arith)
+  first-long (r ∷ rows) h k = k .0 .long
+
+  all-long : (rows : List (List ℕ)) → All (Row l) rows → allAre (l + 1) (map length rows) ≡ true
+  all-long [] k = refl
+  all-long (r ∷ rows) k = ap₂ _&&_ (eq-eqb (length r) (l + 1) (k .0 .long)) (all-long rows (k .1))
+
+  nonzero-ids : (rows : List (List ℕ)) → All (Row l) rows → Fresh 0 (identifiers rows)
+  nonzero-ids rows k = all-map (Row l) (λ a. a ≡ 0 → ⊥) (λ r. getD r 0 0) (λ r h e. omega (arith, h .nonzero)) rows k
+
+not-within : (place : ℕ) (xs : List ℕ) → place ≡ length xs → within place xs ≡ false
+not-within place xs e = le-ltb place (length xs) (omega arith)
+
+module _ (t l : ℕ) (rows : List (List ℕ)) (h : Head t (length rows) l) (k : Rows l rows) where
+  abbrev ns : List ℕ
+  ns = map length rows
+
+  first-is : getD ns 0 0 ≡ l + 1
+  first-is = first-long l rows (h .some-rows) (k .each)
+
+  secret-is : getD ns 0 0 - 1 ≡ l
+  secret-is = omega (arith, first-is)
+
+  judged-rows : (later : Outcome) → judgedRows 1 (laid rows) ns later ≡ later
+  unfolding judged
+  judged-rows later =
+      let ids = identifiers rows in
+      let ids-are : identifiers (cut ns (laid rows)) ≡ ids = ap identifiers (cut-laid rows) in
+      let sums : eqb (sum ns) (length (laid rows)) ≡ true = eq-eqb _ _ (sum-laid rows) in
+      let enough : ltb (length ns) 1 ≡ false = le-ltb (length ns) 1 (omega (arith, length-map rows length, h .some-rows)) in
+      let longer : ltb (l + 1) 2 ≡ false = le-ltb (l + 1) 2 (omega (arith, h .some-values)) in
+      let equal : allAre (l + 1) ns ≡ true = all-long l rows (k .each) in
+      let no-zero : within (placeOf 0 ids) ids ≡ false = not-within _ ids (place-fresh 0 ids (nonzero-ids l rows (k .each))) in
+      let no-twice : within (firstRepeated ids) ids ≡ false = not-within _ ids (repeated-distinct ids (k .distinct)) in
+      let short : ltb maxSecret l ≡ false = le-ltb _ _ (h .values-most) in
+      rw (ids-are, secret-is, first-is, sums, enough, longer, equal, no-zero, no-twice, short)
+
+  abbrev bytes : List ℕ
+  bytes = lengthBytes ns
+
+  text-is : sheet t l rows ≡ sheetText t (laid rows) bytes
+  text-is = sym (ap (λ n. sheet t (secretLength n) (cut n (laid rows))) (lengths-of ns) ∙ ap₂ (sheet t) secret-is (cut-laid rows))
+
+  answer-is : let count = length (sheetText t (laid rows) bytes) in sheetAnswer t (laid rows) bytes count ≡ done count
+  unfolding sheetAnswer
+  answer-is =
+      let count = length (sheetText t (laid rows) bytes) in
+      let later = judgedThreshold t count count in
+      let size : length bytes ≡ length rows * 4 = length-length-bytes ns ∙ ap (_* 4) (length-map rows length) in
+      let low : ltb t 2 ≡ false = le-ltb t 2 (h .threshold-least) in
+      let high : ltb maxShares t ≡ false = le-ltb maxShares t (h .threshold-most) in
+      let room : ltb count count ≡ false = le-ltb count count (le-refl count) in
+      sym (by-lengths 1 (laid rows) bytes later (omega arith) (omega (arith, h .rows-most))
+      (sym (ap (λ n. judgedRows 1 (laid rows) n later) (lengths-of ns) ∙ judged-rows later)))
+      ∙ simp (low, high, room)
+
+  pub rows-sheet : SheetOf t l rows (sheet t l rows)
+  rows-sheet = record {
+    is-sheet = record {
+      threshold = t;
+      storage = laid rows;
+      lengths = bytes;
+      room = length (sheetText t (laid rows) bytes);
+      count = length (sheetText t (laid rows) bytes);
+      storage-bytes = below-laid 256 rows (all-both (Row l) (Row l) (Below 256) (λ r p q. p .bytes) rows (k .each) (k .each));
+      length-bytes = below-length-bytes ns (all-map (Row l) (_< 2 ^ 32) length (λ r p. omega (arith, p .long, h .values-most)) rows (k .each));
+      accepted = answer-is;
+      written = text-is;
+    };
+    threshold-is = refl;
+    rows-are = refl;
+    lengths-are = lengths-of ns;
+    text-is = refl;
+  }

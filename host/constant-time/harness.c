@@ -1,6 +1,6 @@
-/* Calls the two entries under valgrind's memcheck with every secret byte marked undefined. Memcheck
- * then reports each jump and each address that depends on one. What is public stays defined:
- * identifiers, lengths, thresholds.
+/* Calls the three entries under valgrind's memcheck with every secret byte marked undefined.
+ * Memcheck then reports each jump and each address that depends on one. What is public stays
+ * defined: identifiers, lengths, thresholds.
  *
  * Memcheck follows the marks, not the values. Without a report the path is the same for every
  * secret of a shape, so one secret a shape is enough, and the shapes are chosen for the paths:
@@ -16,12 +16,12 @@
 
 enum { UNTOUCHED = 0xee };
 
-static unsigned splits, combines, refusals;
+static unsigned splits, combines, sheets, refusals;
 
 static void require(int holds, const char *what) {
     if (holds) return;
-    printf("WRONG: %s (after %u splits, %u combines, %u refusals)\n", what, splits, combines,
-           refusals);
+    printf("WRONG: %s (after %u splits, %u combines, %u sheets, %u refusals)\n", what, splits,
+           combines, sheets, refusals);
     exit(1);
 }
 
@@ -48,11 +48,19 @@ static uint8_t *some_bytes(size_t len) {
 }
 
 /* Distinct and not 0: steps of 7 go through all 255. */
+static uint8_t nth_id(size_t first, size_t i) { return (uint8_t)((first - 1 + 7 * i) % 255 + 1); }
+
 static uint8_t *some_ids(size_t count) {
     uint8_t *ids = bytes(count);
-    size_t start = next_byte();
-    for (size_t i = 0; i < count; i++) ids[i] = (uint8_t)((start + 7 * i) % 255 + 1);
+    size_t first = next_byte() + 1u;
+    for (size_t i = 0; i < count; i++) ids[i] = nth_id(first, i);
     return ids;
+}
+
+static uint8_t *some_rows(size_t first_id, size_t count, size_t row_len) {
+    uint8_t *rows = some_bytes(count * row_len);
+    for (size_t i = 0; i < count; i++) rows[i * row_len] = nth_id(first_id, i);
+    return rows;
 }
 
 static uint8_t *equal_lengths(size_t count, size_t row_len) {
@@ -140,6 +148,84 @@ static void split(size_t threshold, size_t limit, size_t len) {
     free(rows);
 }
 
+/* Sheets */
+
+/* The bits that differ among the digits 0 to 9 and a to f: all but the highest and the third. */
+enum { DIGIT_BITS = 0x5f };
+
+/* A sheet by a plain writer. Beside each character stand those of its bits that depend on a value:
+ * DIGIT_BITS beside a digit of a value, else 0. */
+struct plain {
+    uint8_t *text, *depends;
+    size_t len;
+};
+
+static void put(struct plain *to, int character, uint8_t depends) {
+    to->text[to->len] = (uint8_t)character;
+    to->depends[to->len] = depends;
+    to->len++;
+}
+
+static void put_words(struct plain *to, const char *words) {
+    for (; *words != 0; words++) put(to, *words, 0);
+}
+
+static void put_row(struct plain *to, const uint8_t *row, size_t row_len) {
+    static const char digits[] = "0123456789abcdef";
+    char start[32];
+    snprintf(start, sizeof start, "row\t%u\t", (unsigned)row[0]);
+    put_words(to, start);
+    for (size_t i = 1; i < row_len; i++) {
+        put(to, digits[row[i] >> 4], DIGIT_BITS);
+        put(to, digits[row[i] & 15], DIGIT_BITS);
+    }
+    put_words(to, "\n");
+}
+
+static struct plain plain_sheet(size_t threshold, const uint8_t *rows, size_t count, size_t len) {
+    size_t room = VSSS_SHEET_ROOM(count, len);
+    struct plain made = {bytes(room), bytes(room), 0};
+    char head[96];
+    snprintf(head, sizeof head, "seal\t%zu\t%zu\t%zu\n", threshold, count, len);
+    put_words(&made, head);
+    for (size_t i = 0; i < count; i++) put_row(&made, rows + i * (len + 1), len + 1);
+    return made;
+}
+
+/* What no value decides is public, what a value decides is secret. The bits of a digit that are
+ * the same in all digits may be either. */
+static void require_sheet_marks(const uint8_t *text, const struct plain *plain) {
+    uint8_t *marks = bytes(plain->len);
+    require(VALGRIND_GET_VBITS(text, marks, plain->len) == 1, "the marks of a sheet are read");
+    for (size_t i = 0; i < plain->len; i++) {
+        uint8_t depends = plain->depends[i];
+        if (depends == 0) require(marks[i] == 0, "a sheet is public around its values");
+        else require((marks[i] & depends) == depends, "the digits of the values are secret");
+    }
+    free(marks);
+}
+
+/* Identifiers from the first on. There is room for the text and no byte more. */
+static void sheet(size_t threshold, size_t first_id, size_t count, size_t len) {
+    uint8_t *rows = some_rows(first_id, count, len + 1);
+    uint8_t *lengths = equal_lengths(count, len + 1);
+    struct plain plain = plain_sheet(threshold, rows, count, len);
+    uint8_t *out = bytes(plain.len);
+    hide_values(rows, count, len + 1);
+    uint64_t word = public_word(vsss_write_sheet(threshold, rows, count * (len + 1), lengths,
+                                                 4 * count, out, plain.len));
+    require(word == plain.len, "a sheet is done");
+    require_sheet_marks(out, &plain);
+    reveal(out, plain.len);
+    require(memcmp(out, plain.text, plain.len) == 0, "a sheet is as the plain writer's");
+    sheets++;
+    free(rows);
+    free(lengths);
+    free(plain.text);
+    free(plain.depends);
+    free(out);
+}
+
 /* Calls that are refused, for each reason */
 
 struct split_call {
@@ -149,11 +235,17 @@ struct split_call {
     size_t ids_len;
 };
 
-/* The first row's length may differ from that of the others. */
-struct combine_call {
+/* Of combine, or of a sheet with a threshold. The first row's length may differ from that of the
+ * others. */
+struct rows_call {
     unsigned number;
     size_t count, first_len, row_len, stored, room;
     const uint8_t *ids;
+};
+
+struct sheet_call {
+    size_t threshold;
+    struct rows_call rows;
 };
 
 static const uint8_t right[] = {7, 1, 9}, zero[] = {7, 1, 0}, twice[] = {1, 7, 9, 7};
@@ -170,7 +262,7 @@ static const struct split_call refused_splits[] = {
     {VSSS_NO_ROOM, 2, 3, 20, 20, 62, right, 3},
 };
 
-static const struct combine_call refused_combines[] = {
+static const struct rows_call refused_combines[] = {
     {VSSS_ROW_LENGTHS, 3, 21, 21, 62, 20, right},
     {VSSS_ROW_LENGTHS, 3, 21, 21, 64, 20, right},
     {VSSS_SHARING_MIN_THRESHOLD, 0, 21, 21, 0, 20, right},
@@ -181,6 +273,21 @@ static const struct combine_call refused_combines[] = {
     {VSSS_SHARING_DUPLICATE_IDENTIFIER, 4, 21, 21, 84, 20, twice},
     {VSSS_TOO_LONG, 3, 4098, 4098, 12294, 4097, right},
     {VSSS_NO_ROOM, 3, 21, 21, 63, 19, right},
+};
+
+/* The sheet of the three right rows has 153 bytes. */
+static const struct sheet_call refused_sheets[] = {
+    {2, {VSSS_ROW_LENGTHS, 3, 21, 21, 62, 153, right}},
+    {2, {VSSS_ROW_LENGTHS, 3, 21, 21, 64, 153, right}},
+    {2, {VSSS_SHARING_MIN_THRESHOLD, 0, 21, 21, 0, 153, right}},
+    {2, {VSSS_INVALID_SHARE, 3, 1, 21, 43, 153, right}},
+    {2, {VSSS_INVALID_SHARE, 3, 20, 21, 62, 153, right}},
+    {2, {VSSS_SHARING_INVALID_IDENTIFIER, 3, 21, 21, 63, 153, zero}},
+    {2, {VSSS_SHARING_DUPLICATE_IDENTIFIER, 4, 21, 21, 84, 200, twice}},
+    {2, {VSSS_TOO_LONG, 3, 4098, 4098, 12294, 24617, right}},
+    {1, {VSSS_SHARING_MIN_THRESHOLD, 3, 21, 21, 63, 153, right}},
+    {256, {VSSS_INVALID_SIZE_REQUEST, 3, 21, 21, 63, 155, right}},
+    {2, {VSSS_NO_ROOM, 3, 21, 21, 63, 152, right}},
 };
 
 static void require_refused(uint64_t word, unsigned number, const uint8_t *out, size_t room) {
@@ -203,7 +310,7 @@ static void refuse_split(const struct split_call *c) {
 }
 
 /* All is hidden but the identifiers, which are written after. */
-static uint8_t *hidden_rows(const struct combine_call *c) {
+static uint8_t *hidden_rows(const struct rows_call *c) {
     uint8_t *rows = some_bytes(c->stored);
     hide(rows, c->stored);
     for (size_t i = 0; i < c->count; i++) {
@@ -213,11 +320,25 @@ static uint8_t *hidden_rows(const struct combine_call *c) {
     return rows;
 }
 
-static void refuse_combine(const struct combine_call *c) {
-    uint8_t *rows = hidden_rows(c), *out = bytes(c->room);
+static uint8_t *row_lengths(const struct rows_call *c) {
     uint8_t *lengths = equal_lengths(c->count, c->row_len);
     if (c->first_len != c->row_len) lengths[0] = (uint8_t)c->first_len;
+    return lengths;
+}
+
+static void refuse_combine(const struct rows_call *c) {
+    uint8_t *rows = hidden_rows(c), *lengths = row_lengths(c), *out = bytes(c->room);
     uint64_t word = vsss_combine_bytes(rows, c->stored, lengths, 4 * c->count, out, c->room);
+    require_refused(word, c->number, out, c->room);
+    free(rows);
+    free(lengths);
+    free(out);
+}
+
+static void refuse_sheet(size_t threshold, const struct rows_call *c) {
+    uint8_t *rows = hidden_rows(c), *lengths = row_lengths(c), *out = bytes(c->room);
+    uint64_t word =
+        vsss_write_sheet(threshold, rows, c->stored, lengths, 4 * c->count, out, c->room);
     require_refused(word, c->number, out, c->room);
     free(rows);
     free(lengths);
@@ -229,6 +350,8 @@ static void refuse_combine(const struct combine_call *c) {
 static void refused_shapes(void) {
     for (size_t i = 0; i < COUNT(refused_splits); i++) refuse_split(refused_splits + i);
     for (size_t i = 0; i < COUNT(refused_combines); i++) refuse_combine(refused_combines + i);
+    for (size_t i = 0; i < COUNT(refused_sheets); i++)
+        refuse_sheet(refused_sheets[i].threshold, &refused_sheets[i].rows);
 }
 
 static void small_shapes(void) {
@@ -253,6 +376,28 @@ static void large_shapes(void) {
     split(255, 255, 4096);
 }
 
+static void small_sheets(void) {
+    static const size_t lens[] = {1, 2, 15, 16, 17, 31, 32, 33, 100};
+    static const size_t ids[] = {1, 9, 10, 99, 100, 255};
+    for (size_t i = 0; i < COUNT(lens); i++) sheet(2, 5, 2, lens[i]);
+    for (size_t i = 0; i < COUNT(ids); i++) sheet(255, ids[i], 1, 33);
+    sheet(2, 1, 16, 32);
+    sheet(255, 1, 255, 3);
+}
+
+/* From identifier 1 on, so that 16 rows have identifiers with one, two and three digits. */
+static void large_sheets(void) {
+    static const size_t thresholds[] = {2, 255}, counts[] = {1, 2, 16, 255};
+    static const size_t lens[] = {1, 2, 15, 16, 17, 31, 32, 33, 100, 4096};
+    for (size_t t = 0; t < COUNT(thresholds); t++)
+        for (size_t c = 0; c < COUNT(counts); c++)
+            for (size_t l = 0; l < COUNT(lens); l++) sheet(thresholds[t], 1, counts[c], lens[l]);
+    for (size_t len = 1; len <= 400; len++) sheet(3, 1, 4, len);
+    for (size_t count = 1; count <= 255; count++) sheet(count < 2 ? 2 : count, 1, count, 17);
+    for (size_t id = 1; id <= 255; id++) sheet(2, id, 1, 33);
+    sheet(2, 1, 3, 4095);
+}
+
 int main(int argc, char **argv) {
     int full = argc == 2 && strcmp(argv[1], "full") == 0;
     int small = argc == 2 && strcmp(argv[1], "small") == 0;
@@ -262,7 +407,12 @@ int main(int argc, char **argv) {
     }
     refused_shapes();
     small_shapes();
-    if (full) large_shapes();
-    printf("%u splits, %u combines, %u refusals, answers right\n", splits, combines, refusals);
+    small_sheets();
+    if (full) {
+        large_shapes();
+        large_sheets();
+    }
+    printf("%u splits, %u combines, %u sheets, %u refusals, answers right\n", splits, combines,
+           sheets, refusals);
     return 0;
 }

@@ -2,14 +2,15 @@
  * that the leak is all that differs from the library that is checked.
  *
  *   -DLEAK    branch or lookup: how it leaks
- *   -DPLACE   SECRET, COEFFICIENT, ROW or COMBINED: whose last byte leaks, in every call */
+ *   -DPLACE   SECRET, COEFFICIENT, ROW, COMBINED, SHEET_ROW: whose last byte leaks, in every call;
+ *             or DIGIT: a sheet's last digit does */
 #include <stdio.h>
 #include <stdlib.h>
 #include <valgrind/memcheck.h>
 
 #include "vsss.h"
 
-enum place { SECRET, COEFFICIENT, ROW, COMBINED };
+enum place { SECRET, COEFFICIENT, ROW, COMBINED, SHEET_ROW, DIGIT };
 
 /* Volatile, so that the compiler keeps the jump and the load. */
 static volatile unsigned sink;
@@ -35,6 +36,8 @@ uint64_t __real_vsss_split_bytes(size_t, size_t, const uint8_t *, size_t, const 
                                  const uint8_t *, size_t, uint8_t *, size_t);
 uint64_t __real_vsss_combine_bytes(const uint8_t *, size_t, const uint8_t *, size_t, uint8_t *,
                                    size_t);
+uint64_t __real_vsss_write_sheet(size_t, const uint8_t *, size_t, const uint8_t *, size_t,
+                                 uint8_t *, size_t);
 
 uint64_t __wrap_vsss_split_bytes(size_t threshold, size_t limit,
                                  const uint8_t *secret, size_t secret_len,
@@ -53,5 +56,17 @@ uint64_t __wrap_vsss_combine_bytes(const uint8_t *rows, size_t rows_len,
     leak(ROW, rows, rows_len);
     uint64_t word = __real_vsss_combine_bytes(rows, rows_len, lengths, lengths_len, out, out_len);
     if (VSSS_NUMBER(word) == 0) leak(COMBINED, out, word);
+    return word;
+}
+
+/* A line feed stands behind the last digit. */
+uint64_t __wrap_vsss_write_sheet(size_t threshold,
+                                 const uint8_t *rows, size_t rows_len,
+                                 const uint8_t *lengths, size_t lengths_len,
+                                 uint8_t *out, size_t out_len) {
+    leak(SHEET_ROW, rows, rows_len);
+    uint64_t word =
+        __real_vsss_write_sheet(threshold, rows, rows_len, lengths, lengths_len, out, out_len);
+    if (VSSS_NUMBER(word) == 0) leak(DIGIT, out, word - 1);
     return word;
 }

@@ -3,7 +3,7 @@
 use std::process::Command;
 use std::{env, fs};
 
-/// The compiler of this program and of the original's text.
+/// The compiler of this program, and with it of all that ours is put beside.
 pub const COMPILER: &str = env!("BENCH_COMPILER");
 
 pub const ARCHITECTURE: &str = env::consts::ARCH;

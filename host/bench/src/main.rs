@@ -1,8 +1,8 @@
-//! `bench [--no-write]`: times of the proved library beside the original's text. It prints a table
-//! and writes the same as docs/bench.md and docs/bench.svg.
+//! `bench [--no-write]`: times of the proved library beside the original's text, and of its sheets
+//! beside a plain writer. It prints a table and writes the same as docs/bench.md and docs/bench.svg.
 //!
-//! Exit 0: every ratio is within its limit. 1: one is not. 2: nothing was measured, or the pages
-//! were not written; the message says why.
+//! Exit 0: every limit is kept. 1: one is not. 2: nothing was measured, or the pages were not
+//! written; the message says why.
 
 mod cases;
 mod machine;
@@ -64,12 +64,15 @@ fn run(write: bool, groups: Vec<Group>) -> ExitCode {
 fn measure(group: Group) -> Table {
     let mut table = Table::headed(&group);
     println!("{}", table.heading_as_text());
-    for case in group.cases {
+    for case in &group.cases {
         let mut pair = (case.prepare)();
-        pair.assert_alike();
-        let line = Line::new(&case.numbers, case.limit, timing::race(&mut *pair));
+        let bytes = pair.assert_alike();
+        let line = Line::new(case, bytes, timing::race(&mut *pair));
         println!("{}", line.as_text());
         table.lines.push(line);
+    }
+    for (speed, _) in table.speeds() {
+        println!("{speed}");
     }
     println!();
     table
@@ -83,14 +86,14 @@ fn write_pages(tables: &[Table]) -> io::Result<()> {
     Ok(())
 }
 
-/// Names every line that is over its limit.
+/// Names every limit that is not kept.
 fn judge(tables: &[Table]) -> ExitCode {
     let missed: Vec<String> = tables.iter().flat_map(Table::missed).collect();
     for line in &missed {
-        eprintln!("bench: over its limit: {line}");
+        eprintln!("bench: limit not kept: {line}");
     }
     if missed.is_empty() {
-        println!("every ratio is within its limit");
+        println!("every limit is kept");
     }
     ExitCode::from(u8::from(!missed.is_empty()))
 }

@@ -12,8 +12,9 @@ pub fn markdown(tables: &[Table]) -> String {
 const INTRODUCTION: &str = "\
 # Times
 
-One call of ours beside one of the original (vsss-rs 6.0.1) on the same input, both optimised. \
-The ratio is ours over the original's. L is the length of the secret in bytes, t the threshold, \
+One call of ours beside one of the original (vsss-rs 6.0.1) on the same input, both optimised; \
+for sheets, which the original has not, beside a plain writer in Rust. \
+The ratio is ours over the other's. L is the length of the secret in bytes, t the threshold, \
 n the count of rows.
 
 ![The ratio of each line, with its limit](bench.svg)
@@ -31,13 +32,13 @@ fn how() -> String {
     VSSS_RS_SOURCE=FOLDER host/cargo run --release --offline --manifest-path host/bench/Cargo.toml
 
 writes this page and the plot anew. FOLDER, an absolute path, holds `src/gf256.rs` of the \
-original. The program fails where a ratio is over its limit.
+original. The program fails where a limit is not kept.
 
-- Processor: {processor}. Compiler of the original and of the calls: {COMPILER}, `--release`.
+- Processor: {processor}. Compiler of the others and of the calls: {COMPILER}, `--release`.
 - {archive}
 - The answers of both are compared first, and have to be equal.
 - A line has {FEWEST_ROUNDS} to {MOST_ROUNDS} rounds, fewer where a call is long. Each round \
-times a batch of ours, then a batch of the original's, each of as many calls as last about \
+times a batch of ours, then a batch of the other's, each of as many calls as last about \
 {batch} ms or more. \
 A time is the median of its rounds, by call. The ratio is that of the medians.
 - Ours is called by its C entries. It is lent its memory, which is not cleared between calls.
@@ -45,6 +46,9 @@ A time is the median of its rounds, by call. The ratio is that of the medians.
 ([host/oracle](../host/oracle/README.md)). It allocates and frees its rows and its secret \
 itself, and reads its coefficients from a script of words in place of a random source. \
 These are in its times.
+- The plain writer ([sheet.rs](../host/bench/src/cases/sheet.rs)) pushes digits from a table, byte by \
+byte, onto a vector that has the room already. It judges nothing and hides nothing.
+- A megabyte is a million bytes.
 "
     )
 }

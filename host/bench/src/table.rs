@@ -1,6 +1,6 @@
 //! What was measured, and its lines as text and Markdown.
 
-use crate::cases::Group;
+use crate::cases::{Case, Group};
 use crate::numbers;
 use crate::timing::Times;
 
@@ -16,14 +16,36 @@ pub struct Line {
     pub label: String,
     pub limit: f64,
     pub times: Times,
+    /// Where there is a least one.
+    speed: Option<Speed>,
+}
+
+/// Megabytes that ours writes in a second: of a million bytes, and whole ones.
+struct Speed {
+    reached: f64,
+    least: f64,
+}
+
+impl Speed {
+    fn of(bytes: usize, seconds: f64, least: f64) -> Self {
+        let reached = (bytes as f64 / seconds / 1e6).floor();
+        Speed { reached, least }
+    }
+
+    fn is_missed(&self) -> bool {
+        self.reached < self.least
+    }
 }
 
 impl Line {
-    pub fn new(case: &[usize], limit: f64, times: Times) -> Self {
+    /// What was measured of a case whose calls write so many bytes.
+    pub fn new(case: &Case, bytes: usize, times: Times) -> Self {
+        let speed = |least| Speed::of(bytes, times.ours, least);
         Line {
-            label: numbers::list(case),
-            limit,
+            label: numbers::list(&case.numbers),
+            limit: case.limit,
             times,
+            speed: case.least_speed.map(speed),
         }
     }
 
@@ -70,25 +92,41 @@ impl Table {
     pub fn as_markdown(&self) -> String {
         let lines = self.lines.iter().map(|line| barred(&line.cells()));
         let rule = "|---|--:|--:|--:|--:|--:|\n".to_string();
+        let speeds = self.speeds().map(|(speed, _)| format!("\n{speed}\n"));
         [barred(&self.heading()), rule]
             .into_iter()
             .chain(lines)
+            .chain(speeds)
             .collect()
     }
 
-    /// Says of each line over its limit which it is.
-    pub fn missed(&self) -> Vec<String> {
-        let over = self.lines.iter().filter(|line| line.is_over());
-        over.map(|line| self.describe(line)).collect()
+    /// Says of each line that has a least speed what it reached, and whether that is too little.
+    pub fn speeds(&self) -> impl Iterator<Item = (String, bool)> {
+        self.lines.iter().filter_map(|line| {
+            let speed = line.speed.as_ref()?;
+            let reached = numbers::grouped(speed.reached as u64);
+            let words = format!(
+                "{}: {reached} MB/s written, at least {}",
+                self.name_of(line),
+                speed.least
+            );
+            Some((words, speed.is_missed()))
+        })
     }
 
-    fn describe(&self, line: &Line) -> String {
-        let (name, numbers, label) = (self.name, self.numbers, &line.label);
-        let ratio = numbers::ratio(line.ratio());
-        format!(
-            "{name} at {numbers} = {label}: {ratio}, at most {}",
-            line.limit
-        )
+    /// Says of each limit that is not kept which it is.
+    pub fn missed(&self) -> Vec<String> {
+        let over = self.lines.iter().filter(|line| line.is_over());
+        let ratios = over.map(|line| {
+            let ratio = numbers::ratio(line.ratio());
+            format!("{}: {ratio}, at most {}", self.name_of(line), line.limit)
+        });
+        let too_slow = self.speeds().filter(|(_, missed)| *missed);
+        ratios.chain(too_slow.map(|(words, _)| words)).collect()
+    }
+
+    fn name_of(&self, line: &Line) -> String {
+        format!("{} at {} = {}", self.name, self.numbers, line.label)
     }
 
     fn heading(&self) -> [String; 6] {
@@ -111,4 +149,50 @@ fn spaced([label, ours, other, ratio, limit, rounds]: &[String; 6]) -> String {
 
 fn barred(cells: &[String; 6]) -> String {
     format!("| {} |\n", cells.join(" | "))
+}
+
+#[cfg(test)]
+mod tests {
+    use super::*;
+
+    /// A table of one line, which writes a million bytes in `ours` seconds.
+    fn table(ours: f64, other: f64) -> Table {
+        let case = Case {
+            numbers: vec![255, 4_096],
+            limit: 2.0,
+            least_speed: Some(200.0),
+            prepare: Box::new(|| unreachable!("nothing is measured here")),
+        };
+        let times = Times {
+            ours,
+            other,
+            rounds: 3,
+        };
+        Table {
+            name: "sheet",
+            numbers: "rows, L",
+            beside: "a plain writer",
+            lines: vec![Line::new(&case, 1_000_000, times)],
+        }
+    }
+
+    #[test]
+    fn limits_are_kept_up_to_their_last_digit() {
+        assert!(table(0.005, 0.0025).missed().is_empty());
+        let speed = "sheet at rows, L = 255, 4,096: 200 MB/s written, at least 200";
+        assert!(
+            table(0.005, 0.0025)
+                .as_markdown()
+                .ends_with(&format!("\n{speed}\n"))
+        );
+    }
+
+    #[test]
+    fn each_limit_that_is_missed_is_named() {
+        let ratio = "sheet at rows, L = 255, 4,096: 2.500, at most 2";
+        let speed = "sheet at rows, L = 255, 4,096: 166 MB/s written, at least 200";
+        assert_eq!(table(0.0025, 0.001).missed(), [ratio]);
+        assert_eq!(table(0.006, 0.006).missed(), [speed]);
+        assert_eq!(table(0.006, 0.0024).missed(), [ratio, speed]);
+    }
 }

@@ -1,5 +1,6 @@
 //! `compare [CALLS [SEED]]`: the proved library beside the original's text, where that is at hand, and beside a plain
-//! reading of the rules; by default on a million random calls, with all short and boundary calls.
+//! reading of the rules; by default on a million random calls, with all short and boundary calls. Then its sheets beside
+//! a plain reading, on as many random calls and all boundary ones.
 
 use compare::Library;
 
@@ -14,7 +15,11 @@ fn number(place: usize, default: u64) -> u64 {
 }
 
 fn main() {
-    let summary = oracle::compare::run(&Library, number(1, 1_000_000), number(2, 1));
-    println!("{summary}");
-    summary.assert_clean();
+    let (calls, seed) = (number(1, 1_000_000), number(2, 1));
+    let sharing = oracle::compare::run(&Library, calls, seed);
+    println!("{sharing}");
+    let sheets = oracle::compare::sheets::run(vsss::entry::write_sheet, calls, seed);
+    println!("{sheets}");
+    sharing.assert_clean();
+    sheets.assert_clean();
 }

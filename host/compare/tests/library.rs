@@ -2,6 +2,7 @@
 
 use compare::Library;
 use oracle::Sharing;
+use vsss::entry::write_sheet;
 
 #[test]
 fn the_sample_is_answered_alike() {
@@ -16,4 +17,14 @@ fn the_sample_is_answered_alike() {
 #[test]
 fn generated_calls_are_answered_alike() {
     oracle::compare::run(&Library, 100_000, 1).assert_clean();
+}
+
+#[test]
+fn the_stored_sheets_are_written_alike() {
+    assert_eq!(oracle::sample::replay_sheets(write_sheet), Ok(49));
+}
+
+#[test]
+fn generated_sheets_are_written_alike() {
+    oracle::compare::sheets::run(write_sheet, 20_000, 1).assert_clean();
 }

@@ -12,6 +12,7 @@ pub enum Command {
     Help(&'static str),
     Split(Split),
     Combine(Combine),
+    Sheet(Sheet),
 }
 
 #[derive(Debug, PartialEq)]
@@ -32,23 +33,35 @@ pub struct Combine {
     pub rows: Vec<PathBuf>,
 }
 
+#[derive(Debug, PartialEq)]
+pub struct Sheet {
+    pub threshold: usize,
+    /// Standard output where there is none.
+    pub out: Option<PathBuf>,
+    pub force: bool,
+    /// One or more.
+    pub rows: Vec<PathBuf>,
+}
+
 const SPLIT: &str = "desk split";
 const COMBINE: &str = "desk combine";
+const SHEET: &str = "desk sheet";
 
 pub fn parse(mut words: Vec<OsString>) -> Result<Command, Failure> {
     if words.is_empty() {
-        return Err(usage("desk", "say what to do: split or combine"));
+        return Err(usage("desk", "say what to do: split, combine or sheet"));
     }
     let command = words.remove(0);
     match command.to_str() {
         Some("--help" | "-h") => Ok(Command::Help(help::DESK)),
         Some("split") => parse_split(words),
         Some("combine") => parse_combine(words),
+        Some("sheet") => parse_sheet(words),
         _ => {
             let name = command.to_string_lossy();
             Err(usage(
                 "desk",
-                format!("there is no command {name}; there are split and combine"),
+                format!("there is no command {name}; there are split, combine and sheet"),
             ))
         }
     }
@@ -60,7 +73,7 @@ fn parse_split(words: Vec<OsString>) -> Result<Command, Failure> {
     }
     let valued = ["--threshold", "--ids", "--coefficients", "--out"];
     let mut line = Line::sort(SPLIT, words, &valued)?;
-    let threshold = threshold_of(&line.need("--threshold")?)?;
+    let threshold = line.need_threshold()?;
     let ids = ids_of(&line.need("--ids")?)?;
     let out = line.need_path("--out")?;
     let coefficients = line.take_path("--coefficients")?;
@@ -81,13 +94,24 @@ fn parse_combine(words: Vec<OsString>) -> Result<Command, Failure> {
     }
     let mut line = Line::sort(COMBINE, words, &["--out"])?;
     let out = line.need_path("--out")?;
-    if line.files.is_empty() {
-        return Err(usage(
-            COMBINE,
-            "no ROWFILE is named; name the row files to combine",
-        ));
-    }
+    line.need_rows("name the row files to combine")?;
     Ok(Command::Combine(Combine {
+        out,
+        force: line.force,
+        rows: line.files,
+    }))
+}
+
+fn parse_sheet(words: Vec<OsString>) -> Result<Command, Failure> {
+    if asks_for_help(&words) {
+        return Ok(Command::Help(help::SHEET));
+    }
+    let mut line = Line::sort(SHEET, words, &["--threshold", "--out"])?;
+    let threshold = line.need_threshold()?;
+    let out = line.take_path("--out")?;
+    line.need_rows("name the row files to write")?;
+    Ok(Command::Sheet(Sheet {
+        threshold,
         out,
         force: line.force,
         rows: line.files,
@@ -171,6 +195,23 @@ impl Line {
         path.ok_or_else(|| self.wrong(format!("{name} is missing")))
     }
 
+    fn need_threshold(&mut self) -> Result<usize, Failure> {
+        let value = self.need("--threshold")?;
+        let text = value.to_string_lossy();
+        match number(&text) {
+            Some(usize::MAX) => Err(self.wrong(format!("--threshold {text} is far too large"))),
+            Some(threshold) => Ok(threshold),
+            None => Err(self.wrong(format!("--threshold {text} is not a number like 2"))),
+        }
+    }
+
+    fn need_rows(&self, advice: &str) -> Result<(), Failure> {
+        if self.files.is_empty() {
+            return Err(self.wrong(format!("no ROWFILE is named; {advice}")));
+        }
+        Ok(())
+    }
+
     fn only_file(&mut self, what: &str) -> Result<PathBuf, Failure> {
         match self.files.len() {
             0 => Err(self.wrong(format!("{what} is missing"))),
@@ -194,18 +235,6 @@ fn name_and_value(word: &OsStr) -> (String, Option<OsString>) {
         None => (bytes, None),
     };
     (String::from_utf8_lossy(name).into_owned(), value)
-}
-
-fn threshold_of(value: &OsStr) -> Result<usize, Failure> {
-    let text = value.to_string_lossy();
-    match number(&text) {
-        Some(usize::MAX) => Err(usage(SPLIT, format!("--threshold {text} is far too large"))),
-        Some(threshold) => Ok(threshold),
-        None => Err(usage(
-            SPLIT,
-            format!("--threshold {text} is not a number like 2"),
-        )),
-    }
 }
 
 fn ids_of(value: &OsStr) -> Result<Vec<u8>, Failure> {
@@ -300,6 +329,26 @@ mod tests {
     }
 
     #[test]
+    fn a_sheet_in_full() {
+        let expected = |out: Option<&str>, force| {
+            Ok(Command::Sheet(Sheet {
+                threshold: 2,
+                out: out.map(PathBuf::from),
+                force,
+                rows: vec!["1.row".into(), "2.row".into()],
+            }))
+        };
+        assert_eq!(
+            parsed("sheet --threshold 2 1.row 2.row"),
+            expected(None, false)
+        );
+        assert_eq!(
+            parsed("sheet --force 1.row --out=a.sheet --threshold=2 -- 2.row"),
+            expected(Some("a.sheet"), true)
+        );
+    }
+
+    #[test]
     fn help_is_given_wherever_it_is_asked_for() {
         assert_eq!(parsed("--help"), Ok(Command::Help(help::DESK)));
         assert_eq!(parsed("-h"), Ok(Command::Help(help::DESK)));
@@ -308,11 +357,12 @@ mod tests {
             Ok(Command::Help(help::SPLIT))
         );
         assert_eq!(parsed("combine -h"), Ok(Command::Help(help::COMBINE)));
+        assert_eq!(parsed("sheet x --help"), Ok(Command::Help(help::SHEET)));
     }
 
     #[test]
     fn what_is_missing_is_named() {
-        assert!(wrong("").contains("split or combine"));
+        assert!(wrong("").contains("split, combine or sheet"));
         assert!(wrong("join").contains("no command join"));
         assert!(wrong("split --ids 1,2 --out d k").contains("--threshold is missing"));
         assert!(wrong("split --threshold 2 --out d k").contains("--ids is missing"));
@@ -322,6 +372,9 @@ mod tests {
         assert!(wrong("combine 1.row 2.row").contains("--out is missing"));
         assert!(wrong("combine --out k").contains("no ROWFILE"));
         assert!(wrong("combine 1.row --out").contains("--out needs a value"));
+        assert!(wrong("sheet 1.row").contains("--threshold is missing"));
+        assert!(wrong("sheet --threshold 2").contains("no ROWFILE"));
+        assert!(wrong("sheet --threshold 2 --out= 1.row").contains("--out is empty"));
     }
 
     #[test]
@@ -343,6 +396,8 @@ mod tests {
         for threshold in ["two", "-1", "+2", "2.0", "0x2"] {
             let line = format!("split --threshold {threshold} --ids 1,2 --out d k");
             assert!(wrong(&line).contains("is not a number"));
+            let line = format!("sheet --threshold {threshold} 1.row");
+            assert!(wrong(&line).contains("See 'desk sheet --help'"));
         }
     }
 }

@@ -6,7 +6,7 @@ use std::path::Path;
 
 use vsss::Refusal;
 
-/// Why nothing was written.
+/// Why no file was written or changed.
 #[derive(Debug)]
 pub enum Failure {
     /// The command line is wrong; `page` is the command whose help tells more.

@@ -1,12 +1,13 @@
 //! The pages of `--help`.
 
 pub const DESK: &str = "\
-desk: splits a key file into row files, and combines row files into the key
+desk: splits a key file into row files, combines them into the key, and writes them as sheets
 
   desk split --threshold T --ids 1,2,3,4 [--coefficients FILE] [--force] --out DIR KEYFILE
   desk combine [--force] --out KEYFILE ROWFILE...
+  desk sheet --threshold T [--force] [--out FILE] ROWFILE...
 
-'desk split --help' and 'desk combine --help' have a page for each.
+'desk split --help', 'desk combine --help' and 'desk sheet --help' have a page for each.
 
 Any T rows of a split give the key back. Fewer than T say nothing of it.
 
@@ -14,9 +15,9 @@ WARNING: combine never learns T. With too few rows, or with a damaged row, it su
 key that it writes is WRONG. Note T with the rows, and try the key before you rely on it.
 
 Exit status: 0 done
-             1 refused or failed; nothing was written. A refusal has its number and name as in
-               docs/RULES.md
-             2 wrong usage; nothing was written
+             1 refused or failed; no file was written or changed. A refusal has its number
+               and name as in docs/RULES.md
+             2 wrong usage; no file was written or changed
 A run that was killed can leave files named .desk-*; remove them.
 ";
 
@@ -58,4 +59,26 @@ Only its owner can read KEYFILE. It appears whole or not at all.
 WARNING: combine never learns the threshold. With too few rows, with a damaged row, or with rows of
 different splits, it succeeds and the key is WRONG. Nothing in the rows can show that: try the key
 before you rely on it, and keep the rows until then.
+";
+
+pub const SHEET: &str = "\
+desk sheet: writes row files as a sheet of text, to be kept on paper
+
+  desk sheet --threshold T [--force] [--out FILE] ROWFILE...
+
+  ROWFILE...           row files of one split, each once, in the order that the sheet is to have.
+                       One is enough: a holder can print his own
+  --threshold T        the threshold of the split, from 2 to 255
+  --out FILE           the file for the sheet. Without it the sheet goes to standard output
+  --force              replace FILE if it is there already
+
+The first line is 'seal', T, the number of rows and the number of bytes of the key. Then each row
+has a line: 'row', its identifier, and its values in hexadecimal, two digits each. Fields are
+parted by tabs.
+
+Only its owner can read FILE. It appears whole or not at all. On standard output a part may have
+appeared when writing fails.
+
+WARNING: a sheet is as secret as the rows on it. With T rows or more it gives the key away.
+No row says what T is: the sheet says what you say, and nothing can show that it is wrong.
 ";

@@ -1,7 +1,9 @@
-//! The desk: splits a key file into row files, and combines row files into the key.
+//! The desk: splits a key file into row files, combines them into the key, and writes them as
+//! sheets.
 //!
-//! `desk --help` says how it is used. Key, rows and coefficients are held in [`vsss::Secret`] only,
-//! which wipes itself; hence `main` returns its exit code and nothing ends the process earlier.
+//! `desk --help` says how it is used. Key, rows, sheets and coefficients are held in
+//! [`vsss::Secret`] only, which wipes itself; hence `main` returns its exit code and nothing ends
+//! the process earlier.
 
 #![forbid(unsafe_code)]
 
@@ -11,6 +13,8 @@ mod failure;
 mod help;
 mod input;
 mod output;
+mod rows;
+mod sheet;
 mod split;
 mod words;
 
@@ -37,16 +41,12 @@ fn main() -> ExitCode {
 
 fn run(words: Vec<OsString>) -> Result<(), Failure> {
     match args::parse(words)? {
-        Command::Help(page) => print_help(page),
-        Command::Split(request) => {
-            report(&split::run(&request)?);
-            Ok(())
-        }
-        Command::Combine(request) => {
-            report(&combine::run(&request)?);
-            Ok(())
-        }
+        Command::Help(page) => return print_help(page),
+        Command::Split(request) => report(&split::run(&request)?),
+        Command::Combine(request) => report(&combine::run(&request)?),
+        Command::Sheet(request) => report(&sheet::run(&request)?),
     }
+    Ok(())
 }
 
 fn print_help(page: &str) -> Result<(), Failure> {

@@ -1,9 +1,10 @@
 //! Writing files so that each appears whole or not at all, and several appear together or not at
-//! all.
+//! all; and writing secrets to standard output.
 
 use std::fs::{self, DirBuilder, File, OpenOptions};
 use std::io::{self, ErrorKind, Write};
 use std::os::unix::fs::{DirBuilderExt, MetadataExt, OpenOptionsExt};
+use std::os::unix::io::AsFd;
 use std::path::{Path, PathBuf};
 use std::process;
 
@@ -19,6 +20,14 @@ pub fn same_file(one: &Path, other: &Path) -> bool {
         (Ok(one), Ok(other)) => (one.dev(), one.ino()) == (other.dev(), other.ino()),
         _ => false,
     }
+}
+
+/// Writes straight to standard output: the library's own writer has a buffer, which could keep a
+/// copy of what is secret.
+pub fn to_standard_output(what: &str, bytes: &[u8]) -> Result<(), Failure> {
+    let output = io::stdout().as_fd().try_clone_to_owned().map(File::from);
+    let written = output.and_then(|mut output| output.write_all(bytes));
+    written.map_err(|error| Failure::cannot_write(Path::new(what), &error))
 }
 
 /// A folder for files. Where it had to be made it is removed again, unless it was kept.
@@ -69,12 +78,23 @@ impl Drop for Folder {
 }
 
 /// Files that are to appear together, in one folder.
-#[derive(Default)]
 pub struct Delivery {
+    force: bool,
     files: Vec<NewFile>,
 }
 
 impl Delivery {
+    /// Looks at the places first, so that no secret byte goes to the disk for a place that is taken.
+    pub fn to<P: AsRef<Path>>(places: &[P], force: bool) -> Result<Delivery, Failure> {
+        for place in places {
+            may_be_written(place.as_ref(), force)?;
+        }
+        Ok(Delivery {
+            force,
+            files: Vec::new(),
+        })
+    }
+
     /// Writes the bytes to the disk, under another name in the folder of `place`.
     pub fn add(&mut self, place: &Path, bytes: &[u8]) -> Result<(), Failure> {
         let written = NewFile::write(place, bytes);
@@ -84,9 +104,9 @@ impl Delivery {
     }
 
     /// Gives every file its name. Where one cannot have it, none keeps it: dropping undoes.
-    pub fn publish(mut self, force: bool) -> Result<(), Failure> {
+    pub fn publish(mut self) -> Result<(), Failure> {
         for file in &mut self.files {
-            file.publish(force)?;
+            file.publish(self.force)?;
         }
         if let Some(file) = self.files.last() {
             sync_folder_of(&file.place);
@@ -122,19 +142,9 @@ impl NewFile {
     }
 
     fn publish(&mut self, force: bool) -> Result<(), Failure> {
-        let name = self.place.display();
-        let moved = match fs::symlink_metadata(&self.place) {
-            Ok(found) if found.is_dir() => {
-                return Err(Failure::Failed(format!("{name} is a folder; name a file")));
-            }
-            Ok(_) if !force => return Err(already_there(&self.place)),
-            Ok(found) if !found.is_file() => {
-                let message = format!("{name} is not a plain file; --force replaces no other");
-                return Err(Failure::Failed(message));
-            }
-            Ok(_) => self.replace(),
-            Err(error) if error.kind() == ErrorKind::NotFound => self.appear(),
-            Err(error) => Err(error),
+        let moved = match may_be_written(&self.place, force)? {
+            Place::Taken => self.replace(),
+            Place::Free => self.appear(),
         };
         moved.map_err(|error| match error.kind() {
             ErrorKind::AlreadyExists => already_there(&self.place),
@@ -207,6 +217,29 @@ impl Drop for NewFile {
             let place = self.place.display();
             let _ = writeln!(io::stderr(), "desk: could not undo all at {place}: {error}");
         }
+    }
+}
+
+/// A place that may be written.
+enum Place {
+    Free,
+    /// By a plain file that may be replaced.
+    Taken,
+}
+
+fn may_be_written(place: &Path, force: bool) -> Result<Place, Failure> {
+    let name = place.display();
+    match fs::symlink_metadata(place) {
+        Ok(found) if found.is_dir() => {
+            Err(Failure::Failed(format!("{name} is a folder; name a file")))
+        }
+        Ok(_) if !force => Err(already_there(place)),
+        Ok(found) if !found.is_file() => Err(Failure::Failed(format!(
+            "{name} is not a plain file; --force replaces no other"
+        ))),
+        Ok(_) => Ok(Place::Taken),
+        Err(error) if error.kind() == ErrorKind::NotFound => Ok(Place::Free),
+        Err(error) => Err(Failure::cannot_write(place, &error)),
     }
 }
 
@@ -338,12 +371,32 @@ mod tests {
         }
     }
 
+    /// As if the places were free when they were looked at.
+    fn unjudged(force: bool) -> Delivery {
+        Delivery::to::<PathBuf>(&[], force).unwrap()
+    }
+
     fn deliver(scratch: &Scratch, names: &[&str], force: bool) -> Result<(), Failure> {
-        let mut delivery = Delivery::default();
+        let mut delivery = unjudged(force);
         for name in names {
             delivery.add(&scratch.join(name), b"new")?;
         }
-        delivery.publish(force)
+        delivery.publish()
+    }
+
+    #[test]
+    fn a_taken_place_is_seen_before_anything_is_written() {
+        let scratch = Scratch::new("first");
+        fs::write(scratch.join("b"), "old").unwrap();
+        fs::create_dir(scratch.join("c")).unwrap();
+        let judged = |names: &[&str], force| {
+            let places: Vec<PathBuf> = names.iter().map(|name| scratch.join(name)).collect();
+            Delivery::to(&places, force).map(drop)
+        };
+        assert!(judged(&["a", "b"], false).is_err());
+        assert!(judged(&["a", "b"], true).is_ok());
+        assert!(judged(&["a", "c"], true).is_err());
+        scratch.holds(&[("b", "old"), ("c", "")]);
     }
 
     #[test]
@@ -362,7 +415,7 @@ mod tests {
     #[test]
     fn nothing_is_seen_before_all_is_written() {
         let scratch = Scratch::new("before");
-        let mut delivery = Delivery::default();
+        let mut delivery = unjudged(false);
         delivery.add(&scratch.join("a"), b"new").unwrap();
         assert!(!scratch.join("a").exists());
         drop(delivery);

@@ -108,11 +108,11 @@ fn too_few(file: &Path, got: usize, needed: usize) -> String {
 fn deliver(request: &Split, places: &[PathBuf], rows: &[Row]) -> Result<(), Failure> {
     // Before the files, so that it is dropped behind them: only an empty folder can be removed.
     let folder = Folder::open(&request.out)?;
-    let mut delivery = Delivery::default();
+    let mut delivery = Delivery::to(places, request.force)?;
     for (place, row) in places.iter().zip(rows) {
         delivery.add(place, row.as_bytes())?;
     }
-    delivery.publish(request.force)?;
+    delivery.publish()?;
     folder.keep();
     Ok(())
 }

@@ -2,10 +2,13 @@
 
 /// `1 byte`, `4,097 bytes`.
 pub fn bytes(count: usize) -> String {
-    match count {
-        1 => "1 byte".to_string(),
-        _ => format!("{} bytes", grouped(count)),
-    }
+    counted(count, "byte")
+}
+
+/// `1 row`, `3 rows`.
+pub fn counted(count: usize, what: &str) -> String {
+    let ending = if count == 1 { "" } else { "s" };
+    format!("{} {what}{ending}", grouped(count))
 }
 
 /// The digits in groups of three: `4,096`.
@@ -42,5 +45,6 @@ mod tests {
         assert_eq!(bytes(0), "0 bytes");
         assert_eq!(bytes(1), "1 byte");
         assert_eq!(bytes(4097), "4,097 bytes");
+        assert_eq!(counted(1, "row"), "1 row");
     }
 }

@@ -23,9 +23,9 @@ const SOURCES: [&str; 8] = [
 const SCRIPTS: [&str; 4] = ["desk", "host/library", "host/clang-here", "host/cargo"];
 
 /// What the scripts use of the system.
-const BORROWED: [&str; 14] = [
-    "basename", "cat", "chmod", "dirname", "find", "grep", "head", "ln", "mkdir", "mv", "readlink",
-    "rm", "sed", "sh",
+const BORROWED: [&str; 15] = [
+    "basename", "cat", "chmod", "cp", "dirname", "find", "grep", "head", "ln", "mkdir", "mv",
+    "readlink", "rm", "sed", "sh",
 ];
 
 const TOOLS: [(&str, &str); 3] = [("rt", RT), ("cargo", CARGO), ("cc", "#!/bin/sh\n")];
@@ -48,7 +48,7 @@ words=$*
 for word; do last=$word; case $word in /dev/null|*.bc|*.ll) input=$word ;; esac; done
 case $words in
 */dev/null*) printf 'target datalayout = \"ours\"\\ntarget triple = \"ours\"\\n' ;;
-*-emit-llvm*) cat \"$input\" ;;
+*-emit-llvm*) cat \"$input\" > \"$last\" ;;
 *) { echo \"$words\"; cat \"$input\"; } > \"$last\" ;;
 esac
 ";
@@ -165,7 +165,8 @@ fn all_is_built_once_and_then_it_is_quiet() {
     let (said, code) = tree.run();
     assert_eq!(code, 0, "{said}");
     assert!(said.starts_with("ran: split a b\ndesk: proving"), "{said}");
-    let builds = "\nrt staticlib vsss\ncargo build, library as proved\n";
+    let builds = "\nrt staticlib vsss\nfor this machine: target/host/libvsss.a\n\
+                  cargo build, library as proved\n";
     assert!(said.ends_with(builds), "{said}");
     assert_eq!(tree.run(), ("ran: split a b\n".to_string(), 0));
 }

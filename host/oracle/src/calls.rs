@@ -2,7 +2,7 @@
 
 use std::fmt;
 
-use crate::{Outcome, Sharing};
+use crate::{Outcome, Sharing, reference};
 
 #[derive(Clone, Debug, PartialEq, Eq)]
 pub struct SplitCall {
@@ -74,10 +74,45 @@ impl CombineCall {
 
     /// The lengths as they cross the C interface: four bytes a row, least first.
     pub fn lengths_as_bytes(&self) -> Vec<u8> {
-        self.lengths
-            .iter()
-            .flat_map(|length| length.to_le_bytes())
-            .collect()
+        as_bytes(&self.lengths)
+    }
+}
+
+fn as_bytes(lengths: &[u32]) -> Vec<u8> {
+    let bytes = lengths.iter().flat_map(|length| length.to_le_bytes());
+    bytes.collect()
+}
+
+/// Rows to write as a sheet.
+#[derive(Clone, Debug, PartialEq, Eq)]
+pub struct SheetCall {
+    pub threshold: usize,
+    /// Rows one after another.
+    pub rows: Vec<u8>,
+    /// As they cross the C interface: four bytes a row, least first, where they are whole.
+    pub lengths: Vec<u8>,
+    /// Length of the output that is lent.
+    pub room: usize,
+}
+
+impl SheetCall {
+    /// Rows laid one after another, with exactly the room that their sheet takes; none where it is
+    /// refused.
+    pub fn of_rows(threshold: usize, rows: &[Vec<u8>]) -> Self {
+        let lengths: Vec<u32> = rows.iter().map(|row| row.len() as u32).collect();
+        Self::of_storage(threshold, rows.concat(), &lengths)
+    }
+
+    /// As `of_rows`, with lengths that may be others than the rows'.
+    pub fn of_storage(threshold: usize, rows: Vec<u8>, lengths: &[u32]) -> Self {
+        let lengths = as_bytes(lengths);
+        let text = reference::sheet_text(threshold, &rows, &lengths);
+        SheetCall {
+            threshold,
+            room: text.map_or(0, |text| text.len()),
+            rows,
+            lengths,
+        }
     }
 }
 
@@ -121,6 +156,19 @@ impl fmt::Display for CombineCall {
             "combine rows [{}] lengths {shown:?} of {} room {}",
             Hex(&self.rows),
             self.lengths.len(),
+            self.room
+        )
+    }
+}
+
+impl fmt::Display for SheetCall {
+    fn fmt(&self, f: &mut fmt::Formatter<'_>) -> fmt::Result {
+        write!(
+            f,
+            "sheet t {} rows [{}] lengths [{}] room {}",
+            self.threshold,
+            Hex(&self.rows),
+            Hex(&self.lengths),
             self.room
         )
     }

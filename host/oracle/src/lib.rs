@@ -8,6 +8,9 @@
 //!   places and the refusals 10 to 13, which the original does not have.
 //!
 //! [`compare::run`] puts an implementation of [`Sharing`] beside all that is at hand.
+//!
+//! The sheets of document 02 are not the original's: there is a plain reading of them, with a
+//! stored sample of its own, and [`compare::sheets::run`].
 
 mod calls;
 pub mod compare;
@@ -21,8 +24,9 @@ pub mod reference;
 pub mod sample;
 pub mod sample_maker;
 mod sharing;
+pub mod sheet_sample;
 
-pub use calls::{CombineCall, SplitCall};
+pub use calls::{CombineCall, SheetCall, SplitCall};
 pub use guarded::Guarded;
 pub use outcome::Outcome;
 pub use random::Random;

@@ -1,6 +1,7 @@
-//! A stored sample of the original's answers, and its replay where the text is not at hand.
+//! A stored sample of the original's answers, and its replay where the text is not at hand; and a
+//! stored sample of sheets, which are the plain reading's.
 //!
-//! The sample is two text files, one call a line. Lines that begin with `#` are comments. Fields
+//! The sample is text files, one call a line. Lines that begin with `#` are comments. Fields
 //! are hexadecimal and separated by one space; `-` is an empty field; a list of numbers is
 //! separated by commas.
 //!
@@ -8,15 +9,20 @@
 //! |---|---|
 //! | `split.txt` | threshold, limit, secret, identifiers, coefficients, number, rows |
 //! | `combine.txt` | lengths, rows, number, secret |
+//! | `sheet.txt` | threshold, lengths, rows, number, first place, second place, text |
 //!
-//! The number is 0 for done, else document 01's refusal; the original has no places. The last field
-//! is what a done call writes, and is empty for a refused one. Rows lie one after another.
+//! The number is 0 for done, else the refusal; the original has no places. The last field is what a
+//! done call writes, and is empty for a refused one. Rows lie one after another.
+//!
+//! A done call is lent as much room as it writes, or more. A refused sheet is lent less than any
+//! sheet takes, which is 20 bytes: so that there can be refusals 12.
 
-use crate::{CombineCall, Outcome, SplitCall};
+use crate::{CombineCall, Outcome, SheetCall, SplitCall};
 use std::fmt::Write;
 
 pub const SPLIT: &str = include_str!("../sample/split.txt");
 pub const COMBINE: &str = include_str!("../sample/combine.txt");
+pub const SHEET: &str = include_str!("../sample/sheet.txt");
 
 /// What the original answered: the bytes, or the number of its refusal.
 pub type Answer = Result<Vec<u8>, u8>;
@@ -79,14 +85,42 @@ fn replay_one(answer: &Answer, run: impl FnOnce(&mut [u8]) -> Outcome) -> Result
         let expected = answer.as_ref().map(Vec::len);
         return Err(format!("answered {outcome}, the original {expected:?}"));
     }
+    check_output(&out, written)
+}
+
+/// Whether the output has these bytes, and behind them what it was lent with.
+fn check_output(out: &[u8], written: &[u8]) -> Result<(), String> {
     let (start, rest) = out.split_at(written.len());
     if start != written {
-        return Err("the bytes differ from the original's".into());
+        return Err("the bytes differ from the stored ones".into());
     }
     if rest.iter().any(|&byte| byte != FILL) {
         return Err("a byte behind those written changed".into());
     }
     Ok(())
+}
+
+/// Replays the stored sheets, and gives their count. The writer takes threshold, rows, lengths and
+/// output as the C entry does, and gives its word.
+///
+/// # Errors
+/// The first line whose answer or output differs.
+pub fn replay_sheets(
+    mut write: impl FnMut(usize, &[u8], &[u8], &mut [u8]) -> u64,
+) -> Result<usize, String> {
+    let sheets = sheet_records(SHEET)?;
+    for (line, (call, answer)) in &sheets {
+        let mut out = vec![FILL; answer.text.len() + BEHIND];
+        let word = write(call.threshold, &call.rows, &call.lengths, &mut out);
+        let answered = if word == answer.outcome.to_word() {
+            check_output(&out, &answer.text)
+        } else {
+            let (found, stored) = (Outcome::from_word(word), answer.outcome);
+            Err(format!("answered {found}, stored is {stored}"))
+        };
+        answered.map_err(|what| format!("sheet.txt, line {line}: {call}: {what}"))?;
+    }
+    Ok(sheets.len())
 }
 
 /// A record with its line number, counted from 1.
@@ -131,6 +165,45 @@ pub fn combine_records(text: &str) -> Result<Numbered<(CombineCall, Answer)>, St
         };
         Some((call, answer))
     })
+}
+
+/// What a writer of sheets answers, and the text that it writes; none where it refuses.
+#[derive(Clone, Debug, PartialEq, Eq)]
+pub struct SheetAnswer {
+    pub outcome: Outcome,
+    pub text: Vec<u8>,
+}
+
+/// The calls of `sheet.txt` with their answers. Each has exactly the room it needs, and a refused
+/// one none.
+///
+/// # Errors
+/// The first line that is not of the format.
+pub fn sheet_records(text: &str) -> Result<Numbered<(SheetCall, SheetAnswer)>, String> {
+    records(text, |fields| {
+        let &[threshold, lengths, rows, number, first, second, text] = fields else {
+            return None;
+        };
+        let answer = sheet_answer([number, first, second], text)?;
+        let threshold = usize::from_str_radix(threshold, 16).ok()?;
+        let call = SheetCall {
+            room: answer.text.len(),
+            ..SheetCall::of_storage(threshold, bytes(rows)?, &numbers(lengths)?)
+        };
+        Some((call, answer))
+    })
+}
+
+fn sheet_answer(fields: [&str; 3], text: &str) -> Option<SheetAnswer> {
+    let text = bytes(text)?;
+    let [number, first, second] = fields.map(|field| usize::from_str_radix(field, 16).ok());
+    let outcome = match (number?, first?, second?) {
+        (0, 0, 0) => Outcome::Done(text.len()),
+        (0, ..) => return None,
+        (number, first, second) => Outcome::refused_at(number.try_into().ok()?, first, second),
+    };
+    let is_done = outcome.number() == 0;
+    (is_done != text.is_empty()).then_some(SheetAnswer { outcome, text })
 }
 
 fn records<T>(text: &str, read: fn(&[&str]) -> Option<T>) -> Result<Numbered<T>, String> {
@@ -191,13 +264,42 @@ pub fn split_line(call: &SplitCall, answer: &Answer) -> String {
 
 /// One line of `combine.txt`, without its end.
 pub fn combine_line(call: &CombineCall, answer: &Answer) -> String {
-    let lengths: Vec<String> = call.lengths.iter().map(|n| format!("{n:x}")).collect();
-    let lengths = if lengths.is_empty() {
-        "-".into()
-    } else {
-        lengths.join(",")
+    format!(
+        "{} {} {}",
+        list(&call.lengths),
+        hex(&call.rows),
+        answer_fields(answer)
+    )
+}
+
+/// One line of `sheet.txt`, without its end.
+///
+/// # Panics
+/// Where the lengths are no list of numbers.
+pub fn sheet_line(call: &SheetCall, answer: &SheetAnswer) -> String {
+    let (lengths, rest) = call.lengths.as_chunks::<4>();
+    assert!(rest.is_empty(), "the lengths are no list of numbers");
+    let lengths: Vec<u32> = lengths.iter().copied().map(u32::from_le_bytes).collect();
+    let (first, second) = match answer.outcome {
+        Outcome::Done(_) => (0, 0),
+        Outcome::Refused { first, second, .. } => (first, second),
     };
-    format!("{lengths} {} {}", hex(&call.rows), answer_fields(answer))
+    format!(
+        "{:x} {} {} {:x} {first:x} {second:x} {}",
+        call.threshold,
+        list(&lengths),
+        hex(&call.rows),
+        answer.outcome.number(),
+        hex(&answer.text)
+    )
+}
+
+fn list(numbers: &[u32]) -> String {
+    if numbers.is_empty() {
+        return "-".into();
+    }
+    let numbers: Vec<String> = numbers.iter().map(|n| format!("{n:x}")).collect();
+    numbers.join(",")
 }
 
 fn answer_fields(answer: &Answer) -> String {

@@ -1,8 +1,10 @@
-//! How the stored sample is made: which calls it holds, and its text.
+//! How the stored sample is made: which calls it holds, its text, and where it is put.
 
 use crate::generate::{Call, boundary_calls, random_call};
 use crate::sample::{combine_line, split_line};
 use crate::{CombineCall, Original, Random, Reference, SplitCall, reference};
+use std::fs;
+use std::path::{Path, PathBuf};
 
 /// Seed of the random calls.
 pub const SEED: u64 = 6;
@@ -17,6 +19,22 @@ const EVERY: usize = 5;
 pub struct Sample {
     pub split: String,
     pub combine: String,
+}
+
+/// Writes files of the sample to the folder, by default the package's own `sample`, and prints what
+/// was written.
+///
+/// # Errors
+/// The first file that cannot be written, and why.
+pub fn store(folder: Option<PathBuf>, files: &[(&str, String)]) -> Result<(), String> {
+    let own = || Path::new(env!("CARGO_MANIFEST_DIR")).join("sample");
+    let folder = folder.unwrap_or_else(own);
+    for (name, text) in files {
+        let file = folder.join(name);
+        fs::write(&file, text).map_err(|error| format!("{}: {error}", file.display()))?;
+        println!("{}: {} bytes", file.display(), text.len());
+    }
+    Ok(())
 }
 
 /// Asks the original about every call of the sample.
@@ -105,8 +123,7 @@ fn apart(calls: Vec<Call>) -> (Vec<SplitCall>, Vec<CombineCall>) {
 
 fn split_number(call: &SplitCall) -> u8 {
     let mut out = vec![0; call.room];
-    call.made_of(&Reference, &mut out)
-    .number()
+    call.made_of(&Reference, &mut out).number()
 }
 
 fn combine_number(call: &CombineCall) -> u8 {

@@ -10,7 +10,7 @@ fn faults_of(sharing: &dyn Sharing) -> u64 {
     let mut random = Random::from_seed(7);
     let some = (0..2000).map(|_| random_call(&mut random));
     let calls = boundary_calls().into_iter().chain(some);
-    compare::run_calls(sharing, calls, 7).faults
+    compare::run_calls(sharing, calls, 7).tally.faults
 }
 
 type Split = fn(usize, usize, &[u8], &[u8], &[u8], &mut [u8]) -> Outcome;

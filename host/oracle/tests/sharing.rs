@@ -25,7 +25,7 @@ fn a_million_random_calls() {
 /// Split and combine never give 9.
 fn every_refusal_was_met(summary: &compare::Summary) {
     for number in (1..=13).filter(|number| *number != 9) {
-        assert!(summary.refused[number] > 50, "{number}: {summary}");
+        assert!(summary.tally.refused[number] > 50, "{number}: {summary}");
     }
     assert!(
         summary.with_original > summary.calls() * 9 / 10,

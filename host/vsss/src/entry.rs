@@ -1,7 +1,8 @@
-//! The two calls into the proved library, made safe, with the bare 64-bit word that comes back.
+//! The calls into the proved library, made safe, with the bare 64-bit word that comes back.
 //!
 //! [`decode`](crate::decode) reads the word. Most callers want
-//! [`split_into`](crate::split_into) and [`combine_into`](crate::combine_into) instead.
+//! [`split_into`](crate::split_into), [`combine_into`](crate::combine_into) and
+//! [`sheet_into`](crate::sheet_into) instead.
 
 mod c {
     extern "C" {
@@ -19,6 +20,16 @@ mod c {
         ) -> u64;
 
         pub fn vsss_combine_bytes(
+            rows: *const u8,
+            rows_len: usize,
+            lengths: *const u8,
+            lengths_len: usize,
+            out: *mut u8,
+            out_len: usize,
+        ) -> u64;
+
+        pub fn vsss_write_sheet(
+            threshold: usize,
             rows: *const u8,
             rows_len: usize,
             lengths: *const u8,
@@ -64,6 +75,24 @@ pub fn combine_bytes(rows: &[u8], lengths: &[u8], out: &mut [u8]) -> u64 {
     // SAFETY: as above.
     unsafe {
         c::vsss_combine_bytes(
+            rows.as_ptr(),
+            rows.len(),
+            lengths.as_ptr(),
+            lengths.len(),
+            out.as_mut_ptr(),
+            out.len(),
+        )
+    }
+}
+
+/// Writes the rows that lie one after another in `rows` as a sheet of text, from the start of
+/// `out`. `lengths` has four bytes for each row, least first.
+#[allow(unsafe_code)]
+pub fn write_sheet(threshold: usize, rows: &[u8], lengths: &[u8], out: &mut [u8]) -> u64 {
+    // SAFETY: as above.
+    unsafe {
+        c::vsss_write_sheet(
+            threshold,
             rows.as_ptr(),
             rows.len(),
             lengths.as_ptr(),

@@ -36,26 +36,37 @@
 //! assert!(refusal.to_string().starts_with("row 2 has identifier 0"));
 //! ```
 //!
+//! Rows can be kept on paper, as lines of text; a holder may print his own alone:
+//!
+//! ```
+//! let sheet = vsss::sheet(2, &[[0x01, 0x2f]])?;
+//! assert_eq!(&sheet[..], b"seal\t2\t1\t1\nrow\t1\t2f\n");
+//! # Ok::<(), vsss::Refusal>(())
+//! ```
+//!
 //! | on slices that you lend | owned |
 //! |---|---|
-//! | [`split_into`], [`combine_into`] | [`split`], [`combine`], [`Row`], [`Secret`] |
+//! | [`split_into`], [`combine_into`], [`sheet_into`] | [`split`], [`combine`], [`sheet`], [`Row`], [`Secret`] |
 //!
-//! [`entry`] has the two calls themselves, with the bare word that comes back.
+//! [`entry`] has the calls themselves, with the bare word that comes back.
 
 #![warn(missing_docs)]
 #![deny(unsafe_code)]
 
+mod crossing;
 pub mod entry;
 mod refusal;
 mod sharing;
+mod sheet;
 mod wipe;
 
 pub use refusal::{decode, Refusal};
 pub use sharing::{coefficients_needed, combine, combine_into, split, split_into, Row};
+pub use sheet::{sheet, sheet_into, sheet_room};
 pub use wipe::{wipe, Secret};
 
 /// The longest secret, in bytes.
 pub const MAX_SECRET: usize = 4096;
 
 /// The most rows that a split makes.
-pub const MAX_ROWS: usize = 255;
+pub const MAX_SHARES: usize = 255;

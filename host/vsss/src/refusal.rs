@@ -15,13 +15,13 @@ use std::fmt;
 /// ```
 #[derive(Clone, Copy, Debug, PartialEq, Eq)]
 pub enum Refusal {
-    /// 1: more than 255 rows asked of split.
+    /// 1: more than 255 rows asked of split, or a sheet's threshold over 255.
     InvalidSizeRequest,
     /// 2: an empty secret.
     InvalidSecret,
     /// 3: the limit is below the threshold.
     SharingLimitLessThanThreshold,
-    /// 4: a threshold under 2, or under 2 rows to combine.
+    /// 4: a threshold under 2; under 2 rows to combine, or none for a sheet.
     SharingMinThreshold,
     /// 5: fewer identifiers than rows asked for.
     NotEnoughShareIdentifiers,
@@ -30,7 +30,7 @@ pub enum Refusal {
         /// The place of the first such identifier or row.
         place: usize,
     },
-    /// 7: two rows to combine carry one identifier.
+    /// 7: two rows of a set carry one identifier. Split never gives it.
     SharingDuplicateIdentifier {
         /// The least place whose identifier stands again further on.
         first: usize,
@@ -39,7 +39,7 @@ pub enum Refusal {
     },
     /// 8: the first row has under 2 bytes, or the rows differ in length.
     InvalidShare,
-    /// 9: inverse of zero, or an identifier that is not one byte. Split and combine never give it.
+    /// 9: inverse of zero, or an identifier that is not one byte. No call here gives it.
     InvalidShareElement,
     /// 10: a secret over 4,096 bytes.
     TooLong,
@@ -47,7 +47,7 @@ pub enum Refusal {
     CoefficientCount,
     /// 12: the output is too short.
     NoRoom,
-    /// 13: the row lengths do not sum to the stored bytes.
+    /// 13: the row lengths do not sum to the stored bytes, or there are more than 65,535.
     RowLengths,
     /// The library answered with a word that has no meaning: archive and wrapper do not belong
     /// together. It has no number.
@@ -89,7 +89,7 @@ impl fmt::Display for Refusal {
     fn fmt(&self, f: &mut fmt::Formatter<'_>) -> fmt::Result {
         match self {
             Refusal::InvalidSizeRequest => {
-                f.write_str("more than 255 rows are asked for; ask for at most 255")
+                f.write_str("split makes at most 255 rows, and a sheet's threshold is at most 255")
             }
             Refusal::InvalidSecret => {
                 f.write_str("the secret is empty; it must have at least one byte")
@@ -98,7 +98,8 @@ impl fmt::Display for Refusal {
                 "fewer rows are asked for than the threshold; ask for more rows or lower the threshold",
             ),
             Refusal::SharingMinThreshold => f.write_str(
-                "split needs a threshold of at least 2, and combine needs at least 2 rows",
+                "split and sheet need a threshold of at least 2; combine needs at least 2 rows, \
+                 and sheet at least 1",
             ),
             Refusal::NotEnoughShareIdentifiers => {
                 f.write_str("there are fewer identifiers than rows; give one for each row")
@@ -125,11 +126,12 @@ impl fmt::Display for Refusal {
             ),
             Refusal::NoRoom => f.write_str(
                 "the output is too short; split needs the row count times the secret's length plus 1, \
-                 combine a row's length less 1",
+                 combine a row's length less 1, sheet at most what sheet_room says",
             ),
-            Refusal::RowLengths => {
-                f.write_str("the row lengths do not add up to the bytes given as rows")
-            }
+            Refusal::RowLengths => f.write_str(
+                "the row lengths do not add up to the bytes given as rows, or there are more than \
+                 65,535 of them",
+            ),
             Refusal::UnknownWord(word) => write!(
                 f,
                 "the library answered {word:#x}, which has no meaning here; build the library and \

@@ -2,7 +2,8 @@
 
 use std::fmt;
 
-use crate::{decode, entry, Refusal, Secret, MAX_ROWS, MAX_SECRET};
+use crate::crossing::{count_within, laid_flat, length_bytes, lengths_of, values_of};
+use crate::{entry, Refusal, Secret, MAX_SECRET, MAX_SHARES};
 
 /// Splits `secret` into `limit` rows, written one after another from the start of `out`: each its
 /// identifier, then one value for each secret byte. Returns the count of bytes written.
@@ -43,18 +44,8 @@ pub fn split_into(
 /// # Ok::<(), vsss::Refusal>(())
 /// ```
 pub fn combine_into(rows: &[u8], lengths: &[u32], out: &mut [u8]) -> Result<usize, Refusal> {
-    let length_bytes: Vec<u8> = lengths.iter().flat_map(|len| len.to_le_bytes()).collect();
-    let word = entry::combine_bytes(rows, &length_bytes, out);
+    let word = entry::combine_bytes(rows, &length_bytes(lengths), out);
     count_within(word, out.len())
-}
-
-/// The count in `word`. More than was lent cannot have been written, so callers may slice by it.
-fn count_within(word: u64, lent: usize) -> Result<usize, Refusal> {
-    let count = decode(word)?;
-    if count > lent {
-        return Err(Refusal::UnknownWord(word));
-    }
-    Ok(count)
 }
 
 /// How many coefficients a split takes: the secret's bytes times the threshold less 1.
@@ -123,7 +114,7 @@ pub fn split(
 ) -> Result<Vec<Row>, Refusal> {
     // Enough for every split that is accepted, and little for one that is not.
     let row_len = secret.len().min(MAX_SECRET) + 1;
-    let mut flat = Secret::zeroed(ids.len().min(MAX_ROWS) * row_len);
+    let mut flat = Secret::zeroed(ids.len().min(MAX_SHARES) * row_len);
     let written = split_into(threshold, ids.len(), secret, ids, coefficients, &mut flat)?;
     let rows = flat[..written].chunks_exact(row_len);
     Ok(rows
@@ -148,8 +139,7 @@ pub fn combine<R: AsRef<[u8]>>(rows: &[R]) -> Result<Secret, Refusal> {
     let lengths = lengths_of(&rows)?;
     let flat = laid_flat(&rows);
     // Enough for every combine that is accepted, and little for one that is not.
-    let values = rows.first().map_or(0, |row| row.len().saturating_sub(1));
-    let mut secret = Secret::zeroed(values.min(MAX_SECRET));
+    let mut secret = Secret::zeroed(values_of(&rows).min(MAX_SECRET));
     let written = combine_into(&flat, &lengths, &mut secret)?;
     if written != secret.len() {
         return Err(Refusal::UnknownWord(written as u64));
@@ -157,35 +147,9 @@ pub fn combine<R: AsRef<[u8]>>(rows: &[R]) -> Result<Secret, Refusal> {
     Ok(secret)
 }
 
-/// A row whose length is no 32-bit number cannot be told to the library: its lengths then do not
-/// add up.
-fn lengths_of(rows: &[&[u8]]) -> Result<Vec<u32>, Refusal> {
-    let length = |row: &&[u8]| u32::try_from(row.len()).map_err(|_| Refusal::RowLengths);
-    rows.iter().map(length).collect()
-}
-
-/// The rows one after another. Room is made once, so that growing leaves no copy behind.
-fn laid_flat(rows: &[&[u8]]) -> Secret {
-    let mut flat = Secret::zeroed(rows.iter().map(|row| row.len()).sum());
-    let mut rest: &mut [u8] = &mut flat;
-    for row in rows {
-        let (place, behind) = rest.split_at_mut(row.len());
-        place.copy_from_slice(row);
-        rest = behind;
-    }
-    flat
-}
-
 #[cfg(test)]
 mod tests {
     use super::*;
-
-    #[test]
-    fn a_count_beyond_what_was_lent_is_no_count() {
-        assert_eq!(count_within(8, 8), Ok(8));
-        assert_eq!(count_within(9, 8), Err(Refusal::UnknownWord(9)));
-        assert_eq!(count_within(8 << 40, 8), Err(Refusal::InvalidShare));
-    }
 
     #[test]
     fn coefficients_are_counted_without_overflow() {
@@ -193,13 +157,6 @@ mod tests {
         assert_eq!(coefficients_needed(1, 5), 0);
         assert_eq!(coefficients_needed(255, 4096), 254 * 4096);
         assert_eq!(coefficients_needed(usize::MAX, usize::MAX), usize::MAX);
-    }
-
-    #[test]
-    fn rows_are_laid_in_order() {
-        let rows: [&[u8]; 4] = [&[1, 2], &[], &[3], &[4, 5, 6]];
-        assert_eq!(laid_flat(&rows)[..], [1, 2, 3, 4, 5, 6]);
-        assert_eq!(lengths_of(&rows), Ok(vec![2, 0, 1, 3]));
     }
 
     #[test]

@@ -1,4 +1,5 @@
-/* Calls the library from C: document 01's cases G and H, and refusals with their places. */
+/* Calls the library from C: document 01's cases G and H, the sheet of G, and refusals with their
+ * places. */
 #include <stdio.h>
 #include <string.h>
 
@@ -53,10 +54,37 @@ static void split_for_a_zero(void) {
     expect(out[0] == 0xee, "and nothing is written");
 }
 
+static void sheet_of_case_g(void) {
+    const uint8_t rows[] = {1, 0x2f, 2, 0x20, 3, 0x25};
+    const uint8_t lengths[] = {2, 0, 0, 0, 2, 0, 0, 0, 2, 0, 0, 0};
+    const char expected[] = "seal\t2\t3\t1\nrow\t1\t2f\nrow\t2\t20\nrow\t3\t25\n";
+    const size_t length = sizeof expected - 1;
+    uint8_t out[VSSS_SHEET_ROOM(3, 1)];
+    memset(out, 0xee, sizeof out);
+    uint64_t word =
+        vsss_write_sheet(2, rows, sizeof rows, lengths, sizeof lengths, out, sizeof out);
+    expect(word == length, "the sheet of G is done with 38 bytes");
+    expect(memcmp(out, expected, length) == 0, "it is the text of document 02");
+    expect(out[length] == 0xee, "and nothing is written behind it");
+}
+
+static void sheet_of_doubled_rows(void) {
+    const uint8_t rows[] = {9, 1, 7, 1, 7, 1};
+    const uint8_t lengths[] = {2, 0, 0, 0, 2, 0, 0, 0, 2, 0, 0, 0};
+    uint8_t out[VSSS_SHEET_ROOM(3, 1)];
+    memset(out, 0xee, sizeof out);
+    uint64_t word =
+        vsss_write_sheet(2, rows, sizeof rows, lengths, sizeof lengths, out, sizeof out);
+    expect(word == ((uint64_t)7 << 40) + (1 << 16) + 2, "no sheet of doubled rows: 7, 1, 2");
+    expect(out[0] == 0xee, "and nothing is written of it");
+}
+
 int main(void) {
     split_case_g();
     combine_case_h();
     combine_a_doubled_row();
     split_for_a_zero();
+    sheet_of_case_g();
+    sheet_of_doubled_rows();
     return failures != 0;
 }

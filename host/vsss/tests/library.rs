@@ -1,6 +1,10 @@
-//! The library through the safe functions: document 01's values, bounds and refusals.
+//! The library through the safe functions: values, bounds and refusals of document 01, and of
+//! document 02's sheets.
 
-use vsss::{combine, combine_into, split, split_into, Refusal, Row, MAX_ROWS, MAX_SECRET};
+use vsss::{
+    combine, combine_into, sheet, sheet_into, sheet_room, split, split_into, Refusal, Row,
+    MAX_SECRET, MAX_SHARES,
+};
 
 const LENT: u8 = 0xee;
 
@@ -21,6 +25,17 @@ fn split_lent(
 fn combine_lent(rows: &[u8], lengths: &[u32], room: usize) -> (Result<usize, Refusal>, Vec<u8>) {
     let mut out = vec![LENT; room];
     let answer = combine_into(rows, lengths, &mut out);
+    (answer, out)
+}
+
+fn sheet_lent(
+    threshold: usize,
+    rows: &[u8],
+    lengths: &[u32],
+    room: usize,
+) -> (Result<usize, Refusal>, Vec<u8>) {
+    let mut out = vec![LENT; room];
+    let answer = sheet_into(threshold, rows, lengths, &mut out);
     (answer, out)
 }
 
@@ -90,8 +105,8 @@ fn any_rows_from_the_threshold_on_give_the_secret_back() {
 fn the_largest_split_is_accepted_and_one_more_is_not() {
     let secret = some_bytes(MAX_SECRET, 3);
     let ids: Vec<u8> = (1..=255).collect();
-    let rows = split(MAX_ROWS, &ids, &secret, &some_bytes(MAX_SECRET * 254, 4)).unwrap();
-    assert_eq!(rows.len(), MAX_ROWS);
+    let rows = split(MAX_SHARES, &ids, &secret, &some_bytes(MAX_SECRET * 254, 4)).unwrap();
+    assert_eq!(rows.len(), MAX_SHARES);
     assert!(combine(&rows).unwrap()[..] == secret, "another secret");
 
     let longer = some_bytes(MAX_SECRET + 1, 3);
@@ -217,5 +232,94 @@ fn rows_of_any_bytes_can_be_given() {
     assert_eq!(
         combine(&[[1, 5], [0, 5]]).unwrap_err(),
         Refusal::SharingInvalidIdentifier { place: 1 }
+    );
+}
+
+/// What the safe function writes, as text.
+fn sheet_text<R: AsRef<[u8]>>(threshold: usize, rows: &[R]) -> String {
+    let sheet = sheet(threshold, rows).unwrap();
+    String::from_utf8(sheet.to_vec()).unwrap()
+}
+
+#[test]
+fn sheets_are_as_document_02_shows_them() {
+    let g = split(2, &[1, 2, 3], &[0x2a], &[0x05]).unwrap();
+    let text = "seal\t2\t3\t1\nrow\t1\t2f\nrow\t2\t20\nrow\t3\t25\n";
+    assert_eq!(sheet_text(2, &g), text);
+    assert_eq!(
+        sheet_text(255, &[&g[2], &g[0]]),
+        "seal\t255\t2\t1\nrow\t3\t25\nrow\t1\t2f\n"
+    );
+    assert_eq!(
+        sheet_text(10, &[[100, 0x00, 0x09, 0xa0, 0xff]]),
+        "seal\t10\t1\t4\nrow\t100\t0009a0ff\n"
+    );
+}
+
+#[test]
+fn a_sheet_takes_the_room_of_its_text_and_no_more() {
+    let rows = [1, 0x2f, 2, 0x20];
+    let (answer, out) = sheet_lent(2, &rows, &[2, 2], 30);
+    assert_eq!(answer, Ok(29));
+    assert_eq!(out, b"seal\t2\t2\t1\nrow\t1\t2f\nrow\t2\t20\n\xee");
+    assert_eq!(sheet_lent(2, &rows, &[2, 2], 29).0, Ok(29));
+    assert_eq!(
+        sheet_lent(2, &rows, &[2, 2], 28),
+        refused(Refusal::NoRoom, 28)
+    );
+}
+
+#[test]
+fn the_largest_sheet_is_written_and_one_more_is_not() {
+    let rows: Vec<Vec<u8>> = (1..=255).map(|id| vec![id; MAX_SECRET + 1]).collect();
+    let text = sheet_text(MAX_SHARES, &rows);
+    assert_eq!(text.lines().next(), Some("seal\t255\t255\t4096"));
+    let last = format!("row\t255\t{}", "ff".repeat(MAX_SECRET));
+    assert!(text.lines().last() == Some(&last), "another last row");
+    // Room is reckoned with three digits for every identifier; 9 have one, and 90 two.
+    assert_eq!(text.len(), sheet_room(MAX_SHARES, MAX_SECRET) - 2 * 9 - 90);
+
+    assert_eq!(sheet(2, &[[1; 4098]]).unwrap_err(), Refusal::TooLong);
+    assert_eq!(
+        sheet(256, &[[1; 4097]]).unwrap_err(),
+        Refusal::InvalidSizeRequest
+    );
+    assert_eq!(
+        sheet(256, &vec![[1, 2]; 65_536]).unwrap_err(),
+        Refusal::RowLengths
+    );
+}
+
+#[test]
+fn a_sheet_is_refused_in_its_order_and_changes_nothing() {
+    let zero = |place| Refusal::SharingInvalidIdentifier { place };
+    let twice = |first, second| Refusal::SharingDuplicateIdentifier { first, second };
+    let long = [[7; 4098], [7; 4098]].concat();
+    let longer_than_any = &long[..4098];
+    // Each call would also be refused by what the next ones are refused by.
+    type Call<'a> = (usize, &'a [u8], &'a [u32], Refusal);
+    let calls: [Call; 15] = [
+        (0, &[1], &[], Refusal::RowLengths),
+        (0, &[0, 0], &[1], Refusal::RowLengths),
+        (0, &[], &[], Refusal::SharingMinThreshold),
+        (256, &[], &[], Refusal::SharingMinThreshold),
+        (0, &[0], &[1], Refusal::InvalidShare),
+        (0, &[0, 0], &[1, 1], Refusal::InvalidShare),
+        (0, &[0, 1, 0], &[2, 1], Refusal::InvalidShare),
+        (0, &[5, 1, 5, 1, 0, 1, 0, 1], &[2, 2, 2, 2], zero(2)),
+        (0, &[3, 1, 5, 1, 5, 1, 3, 1], &[2, 2, 2, 2], twice(0, 3)),
+        (0, &long, &[4098, 4098], twice(0, 1)),
+        (0, longer_than_any, &[4098], Refusal::TooLong),
+        (1, &[9, 1], &[2], Refusal::SharingMinThreshold),
+        (256, &[9, 1], &[2], Refusal::InvalidSizeRequest),
+        (usize::MAX, &[9, 1], &[2], Refusal::InvalidSizeRequest),
+        (255, &[9, 1], &[2], Refusal::NoRoom),
+    ];
+    for (threshold, rows, lengths, refusal) in calls {
+        assert_eq!(sheet_lent(threshold, rows, lengths, 9), refused(refusal, 9));
+    }
+    assert_eq!(
+        sheet::<&[u8]>(2, &[]).unwrap_err(),
+        Refusal::SharingMinThreshold
     );
 }

@@ -36,9 +36,9 @@ fn range_of_line(line: &str) -> Option<Range<u64>> {
     Some(number(start)?..number(end)?)
 }
 
-fn holds(memory: &[u8], kind: usize) -> bool {
+fn holds(memory: &[u8], byte_at: &dyn Fn(usize) -> u8) -> bool {
     let starts = |window: &[u8]| {
-        let mut sought = SOUGHT.map(|place| pattern(kind, place));
+        let mut sought = SOUGHT.map(byte_at);
         window.iter().all(|&byte| Some(byte) == sought.next())
     };
     memory.windows(SOUGHT.len()).any(starts)
@@ -46,13 +46,28 @@ fn holds(memory: &[u8], kind: usize) -> bool {
 
 /// Whether the pattern stands anywhere in memory that this process can write.
 fn is_in_memory(kind: usize) -> bool {
+    memory_holds(&|place| pattern(kind, place))
+}
+
+/// Whether its text does, with two digits a byte.
+fn is_in_memory_as_hex(kind: usize) -> bool {
+    memory_holds(&|place| hex_digit_of_pattern(kind, place))
+}
+
+fn hex_digit_of_pattern(kind: usize, place: usize) -> u8 {
+    let byte = pattern(kind, place / 2);
+    let digit = if place % 2 == 0 { byte / 16 } else { byte % 16 };
+    b"0123456789abcdef"[usize::from(digit)]
+}
+
+fn memory_holds(byte_at: &dyn Fn(usize) -> u8) -> bool {
     let mut memory = File::open("/proc/self/mem").unwrap();
     writable_ranges().into_iter().any(|range| {
         // Wiped like the rest, since what is found is copied here.
         let mut bytes = Secret::zeroed((range.end - range.start) as usize);
         memory.seek(SeekFrom::Start(range.start)).unwrap();
         // Some ranges, such as those of the kernel, cannot be read.
-        memory.read_exact(&mut bytes).is_ok() && holds(&bytes, kind)
+        memory.read_exact(&mut bytes).is_ok() && holds(&bytes, byte_at)
     })
 }
 
@@ -62,6 +77,7 @@ fn nothing_secret_is_left_in_memory() {
     what_is_dropped_is_gone();
     the_search_sees_what_is_not_wiped();
     split_and_combine_leave_nothing_behind();
+    sheets_leave_nothing_behind();
 }
 
 fn what_is_dropped_is_gone() {
@@ -100,4 +116,22 @@ fn split_and_combine_leave_nothing_behind() {
     drop((rows, mixed, secret, coefficients));
     assert!(!is_in_memory(kind), "the secret is still in memory");
     assert!(!is_in_memory(other), "the coefficients are still in memory");
+}
+
+fn sheets_leave_nothing_behind() {
+    let kind = 5;
+    let mut row = Secret::zeroed(1 + LEN);
+    row[0] = 1;
+    fill(&mut row[1..], kind);
+    let sheet = vsss::sheet(2, &[&row]).unwrap();
+    assert!(
+        is_in_memory_as_hex(kind),
+        "the search must see what is kept"
+    );
+    drop((row, sheet));
+    assert!(!is_in_memory(kind), "the row is still in memory");
+    assert!(
+        !is_in_memory_as_hex(kind),
+        "the row's text is still in memory"
+    );
 }

@@ -2,9 +2,9 @@
 
 use std::hint::black_box;
 
-use oracle::{CombineCall, CombineOriginal, Random};
+use oracle::{CombineCall, CombineOriginal};
 
-use super::{Case, Group, LENGTHS, Pair, SEED, count_written};
+use super::{Case, Group, LENGTHS, Pair, count_written, rows};
 
 const COUNTS: [usize; 3] = [2, 16, 255];
 
@@ -24,6 +24,7 @@ fn case(original: CombineOriginal, count: usize, length: usize) -> Case {
     Case {
         numbers: vec![count, length],
         limit: limit(count, length),
+        least_speed: None,
         prepare: Box::new(move || Box::new(Combine::new(original, count, length))),
     }
 }
@@ -72,15 +73,6 @@ impl Combine {
     }
 }
 
-/// Rows of any values: combine takes them as they come.
-fn rows(count: usize, length: usize) -> Vec<Vec<u8>> {
-    let mut random = Random::from_seed(SEED);
-    let ids = random.distinct_ids(count);
-    ids.into_iter()
-        .map(|id| [vec![id], random.bytes(length)].concat())
-        .collect()
-}
-
 impl Pair for Combine {
     fn ours(&mut self) {
         black_box(self.call_ours());
@@ -90,9 +82,10 @@ impl Pair for Combine {
         let _ = black_box(self.call_original());
     }
 
-    fn assert_alike(&mut self) {
+    fn assert_alike(&mut self) -> usize {
         let count = count_written(self.call_ours());
         let secret = self.call_original().expect("the original accepts it");
         assert!(self.out[..count] == secret, "the secrets differ");
+        count
     }
 }

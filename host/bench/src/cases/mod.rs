@@ -1,9 +1,10 @@
 //! What is measured. A new group is a module here that makes a [`Group`], and a line in [`all`].
 
 mod combine;
+mod sheet;
 mod split;
 
-use oracle::{Original, Outcome};
+use oracle::{Original, Outcome, Random};
 
 /// The same work done twice: by ours, and by what ours is put beside.
 pub trait Pair {
@@ -13,11 +14,11 @@ pub trait Pair {
     /// One call of the other.
     fn other(&mut self);
 
-    /// One call of each, untimed.
+    /// One call of each, untimed. Gives how many bytes ours wrote.
     ///
     /// # Panics
     /// Where the answers differ: their times would then say nothing.
-    fn assert_alike(&mut self);
+    fn assert_alike(&mut self) -> usize;
 }
 
 pub struct Case {
@@ -25,8 +26,10 @@ pub struct Case {
     pub numbers: Vec<usize>,
     /// The most that the time of ours may be, as a part of the other's.
     pub limit: f64,
+    /// The least that the speed of ours may be, in megabytes written a second, where that counts.
+    pub least_speed: Option<f64>,
     /// Makes the input. It is made late, so that one case at a time holds its memory.
-    pub prepare: Box<dyn FnOnce() -> Box<dyn Pair>>,
+    pub prepare: Box<dyn Fn() -> Box<dyn Pair>>,
 }
 
 pub struct Group {
@@ -43,6 +46,7 @@ pub fn all(original: Original) -> Vec<Group> {
     vec![
         combine::group(original.combine),
         split::group(original.split),
+        sheet::group(),
     ]
 }
 
@@ -51,6 +55,15 @@ const SEED: u64 = 1;
 
 /// Lengths of the secret.
 const LENGTHS: [usize; 2] = [32, 4_096];
+
+/// Rows of any values: combine and sheets take them as they come.
+fn rows(count: usize, length: usize) -> Vec<Vec<u8>> {
+    let mut random = Random::from_seed(SEED);
+    let ids = random.distinct_ids(count);
+    ids.into_iter()
+        .map(|id| [vec![id], random.bytes(length)].concat())
+        .collect()
+}
 
 /// The count of bytes that an entry says it wrote.
 ///

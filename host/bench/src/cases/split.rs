@@ -27,6 +27,7 @@ fn case(original: SplitOriginal, (threshold, limit): (usize, usize), length: usi
     Case {
         numbers: vec![threshold, limit, length],
         limit: LIMIT,
+        least_speed: None,
         prepare: Box::new(move || Box::new(Split::new(original, threshold, limit, length))),
     }
 }
@@ -98,9 +99,10 @@ impl Pair for Split {
         let _ = black_box(self.call_original());
     }
 
-    fn assert_alike(&mut self) {
+    fn assert_alike(&mut self) -> usize {
         let count = count_written(self.call_ours());
         let rows = self.call_original().expect("the original accepts it");
         assert!(self.out[..count] == rows.concat(), "the rows differ");
+        count
     }
 }

@@ -22,10 +22,10 @@ fn main() -> ExitCode {
     let start = Instant::now();
     let summary = compare::run(&Reference, calls, seed);
     println!("{summary}; {:.1} s", start.elapsed().as_secs_f64());
-    for description in &summary.descriptions {
+    for description in &summary.tally.descriptions {
         println!("{description}");
     }
-    ExitCode::from(u8::from(summary.faults > 0))
+    ExitCode::from(u8::from(summary.tally.faults > 0))
 }
 
 fn numbers(arguments: &[String]) -> Option<(u64, u64)> {

@@ -148,7 +148,7 @@ fn split_refusals_combined(random: &mut Random) -> Vec<SplitCall> {
 }
 
 /// Rows with identifiers 1, 2, .. and random values.
-fn plain_rows(random: &mut Random, count: usize, values: usize) -> Vec<Vec<u8>> {
+pub(super) fn plain_rows(random: &mut Random, count: usize, values: usize) -> Vec<Vec<u8>> {
     (0..count)
         .map(|row| {
             let mut bytes = random.bytes(values + 1);

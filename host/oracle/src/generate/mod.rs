@@ -2,10 +2,12 @@
 
 mod boundaries;
 mod random_calls;
+mod sheets;
 mod short;
 
 pub use boundaries::boundary_calls;
 pub use random_calls::random_call;
+pub use sheets::{random_sheet_call, sheet_boundary_calls};
 pub use short::short_calls;
 
 use crate::{CombineCall, SplitCall};

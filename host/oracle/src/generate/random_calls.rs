@@ -131,7 +131,7 @@ fn some_rows_of_a_split(random: &mut Random) -> Vec<Vec<u8>> {
     rows
 }
 
-fn random_rows(random: &mut Random) -> Vec<Vec<u8>> {
+pub(super) fn random_rows(random: &mut Random) -> Vec<Vec<u8>> {
     let (most_rows, _, most_bytes) = size(random);
     let count = random.between(2, most_rows);
     let values = random.between(1, most_bytes);
@@ -144,7 +144,7 @@ fn random_rows(random: &mut Random) -> Vec<Vec<u8>> {
     rows
 }
 
-fn damage_rows(rows: &mut Vec<Vec<u8>>, random: &mut Random) {
+pub(super) fn damage_rows(rows: &mut Vec<Vec<u8>>, random: &mut Random) {
     if rows.is_empty() {
         return;
     }

@@ -1,16 +1,19 @@
 //! A plain reading of document 01, written from its text and not from the original: sums where the
 //! original has Horner, Neville's scheme where it has Lagrange coefficients, a search for inverses.
-//! It favours being read over being fast, and it is not constant time.
+//! And one of document 02's sheets. It favours being read over being fast, and it is not constant
+//! time.
 
 mod field;
 mod refusals;
+mod sheet;
 mod values;
 
 pub use field::{inverse, power, product, quotient};
+pub use sheet::{sheet_text, write_sheet};
 pub use values::{lagrange_coefficients, row_value, values_at_zero};
 
 use crate::Outcome;
-use refusals::{combine_refusal, split_refusal};
+use refusals::{lengths_from_bytes, rows_refusal, split_refusal};
 
 /// The longest secret that is accepted.
 pub const MAX_SECRET: usize = 4096;
@@ -70,10 +73,13 @@ pub fn split(
 
 /// Document 01's combine over flat, lent storage.
 pub fn combine(rows: &[u8], lengths: &[u32], out: &mut [u8]) -> Outcome {
-    if let Some(refused) = combine_refusal(rows, lengths, out.len()) {
+    if let Some(refused) = rows_refusal(rows, lengths, 2) {
         return refused;
     }
     let width = lengths[0] as usize;
+    if out.len() < width - 1 {
+        return Outcome::refused(12);
+    }
     let points: Vec<(u8, &[u8])> = rows
         .chunks_exact(width)
         .map(|row| (row[0], &row[1..]))
@@ -85,10 +91,8 @@ pub fn combine(rows: &[u8], lengths: &[u32], out: &mut [u8]) -> Outcome {
 
 /// Combine with lengths as they cross the C interface: four bytes a row, least first.
 pub fn combine_length_bytes(rows: &[u8], lengths: &[u8], out: &mut [u8]) -> Outcome {
-    let (whole, rest) = lengths.as_chunks::<4>();
-    if !rest.is_empty() || whole.len() > MAX_ROWS {
-        return Outcome::refused(13);
+    match lengths_from_bytes(lengths) {
+        Ok(lengths) => combine(rows, &lengths, out),
+        Err(refused) => refused,
     }
-    let lengths: Vec<u32> = whole.iter().map(|four| u32::from_le_bytes(*four)).collect();
-    combine(rows, &lengths, out)
 }

@@ -1,6 +1,6 @@
-//! The refusals in document 01's order.
+//! The refusals in the order of document 01, and of document 02 for sheets.
 
-use super::{MAX_LIMIT, MAX_SECRET};
+use super::{MAX_LIMIT, MAX_ROWS, MAX_SECRET};
 use crate::Outcome;
 
 /// The first refusal whose condition holds.
@@ -44,14 +44,23 @@ pub(super) fn split_refusal(
     None
 }
 
-/// The first refusal whose condition holds.
-pub(super) fn combine_refusal(rows: &[u8], lengths: &[u32], room: usize) -> Option<Outcome> {
+/// Lengths that crossed the C interface, four bytes a row, least first; 13 where they could not.
+pub(super) fn lengths_from_bytes(bytes: &[u8]) -> Result<Vec<u32>, Outcome> {
+    let (whole, rest) = bytes.as_chunks::<4>();
+    if !rest.is_empty() || whole.len() > MAX_ROWS {
+        return Err(Outcome::refused(13));
+    }
+    Ok(whole.iter().map(|four| u32::from_le_bytes(*four)).collect())
+}
+
+/// The first refusal of a set of rows whose condition holds, up to 10. So many rows are enough.
+pub(super) fn rows_refusal(rows: &[u8], lengths: &[u32], enough: usize) -> Option<Outcome> {
     let refused = |number| Some(Outcome::refused(number));
     let sum: u128 = lengths.iter().map(|&length| u128::from(length)).sum();
     if sum != rows.len() as u128 {
         return refused(13);
     }
-    if lengths.len() < 2 {
+    if lengths.len() < enough {
         return refused(4);
     }
     let width = lengths[0] as usize;
@@ -68,14 +77,19 @@ pub(super) fn combine_refusal(rows: &[u8], lengths: &[u32], room: usize) -> Opti
     if let Some((first, second)) = first_repeat(&ids) {
         return Some(Outcome::refused_at(7, first, second));
     }
-    let secret = width - 1;
-    if secret > MAX_SECRET {
+    if width - 1 > MAX_SECRET {
         return refused(10);
     }
-    if room < secret {
-        return refused(12);
-    }
     None
+}
+
+/// The refusals of a sheet's threshold.
+pub(super) fn threshold_refusal(threshold: usize) -> Option<Outcome> {
+    match threshold {
+        0 | 1 => Some(Outcome::refused(4)),
+        2..=MAX_LIMIT => None,
+        _ => Some(Outcome::refused(1)),
+    }
 }
 
 /// The least place whose identifier comes again, and the least place after it where it does.

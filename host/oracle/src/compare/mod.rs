@@ -5,15 +5,19 @@
 //! or every byte of the rows or of the secret. Where the plain reading refuses by 10 to 12, which
 //! come last, the original has to accept. Refusal 13 has no counterpart: its rows are no rows.
 
+mod expected;
+pub mod sheets;
+mod tally;
+
+pub use tally::Tally;
+
 use crate::generate::{Call, LengthBytesCall, boundary_calls, random_call, short_calls};
 use crate::{
-    CombineCall, Guarded, Original, Outcome, Random, Reference, Sharing, SplitCall, original_at_hand,
-    reference,
+    CombineCall, Guarded, Original, Outcome, Random, Reference, Sharing, SplitCall,
+    original_at_hand, reference,
 };
+use expected::{Expected, first_difference, untouched};
 use std::fmt;
-
-/// At most this many faults are described; all are counted.
-const DESCRIBED: usize = 10;
 
 /// Counts of a run, and what was found.
 #[derive(Clone, Debug, Default)]
@@ -24,15 +28,11 @@ pub struct Summary {
     pub random: u64,
     pub split: u64,
     pub combine: u64,
-    pub done: u64,
-    /// By number; place 0 is not used.
-    pub refused: [u64; 14],
     /// Calls that the original answered too.
     pub with_original: u64,
     /// Calls refused by 10 to 12 that the original accepts.
     pub beyond_original: u64,
-    pub faults: u64,
-    pub descriptions: Vec<String>,
+    pub tally: Tally,
 }
 
 impl Summary {
@@ -43,7 +43,7 @@ impl Summary {
     /// # Panics
     /// With the descriptions, if a fault was found.
     pub fn assert_clean(&self) {
-        assert!(self.faults == 0, "{self}\n{}", self.descriptions.join("\n"));
+        self.tally.assert_clean(self);
     }
 }
 
@@ -51,7 +51,8 @@ impl fmt::Display for Summary {
     fn fmt(&self, f: &mut fmt::Formatter<'_>) -> fmt::Result {
         write!(
             f,
-            "seed {}: {} calls ({} boundary, {} short, {} random; {} split, {} combine), {} done, refused",
+            "seed {}: {} calls ({} boundary, {} short, {} random; {} split, {} combine), {}; \
+             {} answered by the original too, {} refused by 10 to 12 that it accepts; {} faults",
             self.seed,
             self.calls(),
             self.boundary,
@@ -59,20 +60,10 @@ impl fmt::Display for Summary {
             self.random,
             self.split,
             self.combine,
-            self.done
-        )?;
-        for (number, count) in self
-            .refused
-            .iter()
-            .enumerate()
-            .filter(|(_, count)| **count > 0)
-        {
-            write!(f, " {number}: {count}")?;
-        }
-        write!(
-            f,
-            "; {} answered by the original too, {} refused by 10 to 12 that it accepts; {} faults",
-            self.with_original, self.beyond_original, self.faults
+            self.tally,
+            self.with_original,
+            self.beyond_original,
+            self.tally.faults
         )
     }
 }
@@ -117,13 +108,6 @@ struct Judge<'a> {
     summary: Summary,
 }
 
-/// What a call has to answer, and what its output has to hold.
-struct Expected {
-    outcome: Outcome,
-    before: Vec<u8>,
-    after: Vec<u8>,
-}
-
 impl<'a> Judge<'a> {
     fn new(sharing: &'a dyn Sharing, seed: u64) -> Self {
         Judge {
@@ -147,18 +131,13 @@ impl<'a> Judge<'a> {
                 .map_err(|what| format!("lengths of {} bytes: {what}", call.lengths.len())),
         };
         if let Err(description) = found {
-            self.summary.faults += 1;
-            if self.summary.descriptions.len() < DESCRIBED {
-                self.summary.descriptions.push(description);
-            }
+            self.summary.tally.add_fault(description);
         }
     }
 
     fn split(&mut self, call: &SplitCall) -> Result<(), String> {
         self.summary.split += 1;
-        let expected = self.expect(call.room, |out| {
-            call.made_of(&Reference, out)
-        });
+        let expected = self.expect(call.room, |out| call.made_of(&Reference, out));
         self.compare_split_with_original(call, &expected)?;
 
         let [secret, ids, coefficients] =
@@ -229,18 +208,9 @@ impl<'a> Judge<'a> {
 
     /// Works out a call by the plain reading, over an output of random bytes.
     fn expect(&mut self, room: usize, plain: impl FnOnce(&mut [u8]) -> Outcome) -> Expected {
-        let before = self.random.bytes(room);
-        let mut after = before.clone();
-        let outcome = plain(&mut after);
-        match outcome {
-            Outcome::Done(_) => self.summary.done += 1,
-            Outcome::Refused { number, .. } => self.summary.refused[usize::from(number)] += 1,
-        }
-        Expected {
-            outcome,
-            before,
-            after,
-        }
+        let expected = Expected::by(plain, self.random.bytes(room));
+        self.summary.tally.count(expected.outcome);
+        expected
     }
 
     fn guard(&mut self, bytes: &[u8]) -> Guarded<u8> {
@@ -314,41 +284,5 @@ impl<'a> Judge<'a> {
                 "the original refuses by {number}, the plain reading is {outcome}"
             )),
         }
-    }
-}
-
-impl Expected {
-    fn check(&self, outcome: Outcome, out: &Guarded<u8>) -> Result<(), String> {
-        if outcome != self.outcome {
-            return Err(format!("answered {outcome}, expected {}", self.outcome));
-        }
-        if out.lend() != self.after {
-            return Err(format!(
-                "the output is wrong{}",
-                first_difference(out.lend(), &self.after)
-            ));
-        }
-        if !out.holds(&self.after) {
-            return Err("a byte beside the output changed".into());
-        }
-        Ok(())
-    }
-}
-
-fn first_difference(found: &[u8], expected: &[u8]) -> String {
-    let place = found.iter().zip(expected).position(|(a, b)| a != b);
-    place.map_or(String::new(), |place| {
-        format!(
-            ": byte {place} is {:02x}, not {:02x}",
-            found[place], expected[place]
-        )
-    })
-}
-
-fn untouched<T: Copy + PartialEq>(name: &str, buffer: &Guarded<T>) -> Result<(), String> {
-    if buffer.is_untouched() {
-        Ok(())
-    } else {
-        Err(format!("{name} or a canary beside changed"))
     }
 }

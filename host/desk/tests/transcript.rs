@@ -1,4 +1,4 @@
-//! Plays the session in `transcript.txt` and compares all that the commands write.
+//! Plays the commands of `transcript.txt` and compares all that the commands write.
 //!
 //! A line that starts with `$ ` is a command for the shell, one that starts with `# ` says what is
 //! tried, and the lines behind a command are what it must write, errors too. `[exit N]` follows
@@ -65,7 +65,7 @@ fn first_difference(stored: &str, played: &str) -> String {
 }
 
 #[test]
-fn the_session_goes_as_stored() {
+fn the_commands_answer_as_stored() {
     let transcript = fs::read_to_string(stored()).unwrap();
     let played = play(&transcript);
     if env::var_os("DESK_TRANSCRIPT") == Some("write".into()) {

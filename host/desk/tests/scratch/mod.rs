@@ -69,7 +69,7 @@ impl Scratch {
 
 impl Drop for Scratch {
     fn drop(&mut self) {
-        // Folders that were shut during the session must be opened to be removed.
+        // Folders that a command has shut must be opened to be removed.
         let _ = self.sh("chmod -R u+rwX .");
         let _ = fs::remove_dir_all(&self.root);
     }

@@ -10,7 +10,8 @@ use lib.ListN.{length, getD, List·getD-append}
 use Rattle.shamir.specs.Lists.{All}
 use Rattle.shamir.proofs.Lists.{all-append}
 use Rattle.sheets.specs.Text.{decimal}
-use Rattle.sheets.specs.Unsheet.{valueFrom, value}
+use Rattle.sheets.specs.ReadAs.{valueFrom, value}
+use Rattle.sheets.specs.ReadAs.{IsDigit}
 use Rattle.sheets.proofs.Decimal.{decimal-small, decimal-more, length-decimal-small, length-decimal-more}
 
 -- a number has one digit, or more
@@ -26,9 +27,6 @@ by-digits P one more n = below (suc n) n (omega arith)
     below (suc p) n h = ⊎-elim (one n) (λ l. more n l (below p (n / 10) (omega arith))) (one-or-more n)
 
 -- ---- its characters
-
-abbrev pub IsDigit : ℕ → Type 0
-IsDigit c = (48 ≤ c) × (c ≤ 57)
 
 pub decimal-digits : (n : ℕ) → All IsDigit (decimal n)
 decimal-digits =

@@ -3,19 +3,17 @@
 use mathlib.Core.Path.{_≡_, refl, sym, ap, ap₂, _∙_}
 use mathlib.Core.List.{List, [], _∷_}
 use mathlib.Core.Logic.{_⊎_, inl, inr, ⊎-elim}
-use Prim.Native.Nat.{ℕ, _+_, _*_, _-_, _/_, _%_, _<_, _≤_}
+use Prim.Native.Nat.{ℕ, _+_, _*_, _-_, _/_, _%_, _<_}
 use native.Mathlib.Omega.{arith}
 use lib.ListN.{length}
 use borrow.Author.Tests.{lt-ltb, le-ltb}
 use Rattle.shamir.specs.Lists.{All, Below}
 use Rattle.sheets.specs.Text.{hexDigit, hex}
-use Rattle.sheets.specs.Unsheet.{unhexDigit, unhex}
-use Rattle.sheets.proofs.DecimalValue.{one-or-more, IsDigit}
+use Rattle.sheets.specs.ReadAs.{unhexDigit, unhex}
+use Rattle.sheets.specs.ReadAs.{IsHexDigit}
+use Rattle.sheets.proofs.DecimalValue.{one-or-more}
 
 -- ---- its characters
-
-abbrev pub IsHexDigit : ℕ → Type 0
-IsHexDigit c = IsDigit c ⊎ ((97 ≤ c) × (c ≤ 102))
 
 hex-digit : (d : ℕ) → d < 16 → IsHexDigit (hexDigit d)
 hex-digit d h = ⊎-elim (λ l. rw (lt-ltb d 10 l) (inl (omega arith))) (λ l. rw (le-ltb d 10 l) (inr (omega arith))) (one-or-more d)

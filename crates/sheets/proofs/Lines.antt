@@ -11,8 +11,9 @@ use Rattle.shamir.specs.Lists.{All, Below}
 use Rattle.shamir.proofs.Lists.{all-drop, all-both}
 use Rattle.sheets.specs.Text.{decimal, hex}
 use Rattle.sheets.specs.Sheet.{sealWord, rowWord, headLine, rowLine, rowLines}
-use Rattle.sheets.proofs.DecimalValue.{IsDigit, decimal-digits, decimal-told}
-use Rattle.sheets.proofs.Hex.{IsHexDigit, hex-digits, hex-told}
+use Rattle.sheets.specs.ReadAs.{IsDigit, IsHexDigit}
+use Rattle.sheets.proofs.DecimalValue.{decimal-digits, decimal-told}
+use Rattle.sheets.proofs.Hex.{hex-digits, hex-told}
 use Rattle.sheets.proofs.Fields.{Plain, line-told}
 
 -- ---- digits end no field

@@ -7,8 +7,7 @@ use Rattle.rows.specs.Lengths.{lengthsOf}
 use Rattle.sharing.specs.RowSet.{secretLength, judged}
 use Rattle.sheets.specs.Text.{decimal}
 use Rattle.sheets.specs.Sheet.{sheet, sheetAnswer, sheetBytes}
-use Rattle.sheets.specs.Unsheet.{unsheet}
-use Rattle.sheets.specs.Promises.{Determined, Independent, ToldApart, DecimalRight, CaseG, ReadG}
+use Rattle.sheets.specs.Promises.{Determined, Independent, ToldApart, DecimalRight, CaseG}
 use Rattle.sheets.proofs.DecimalValue.{value-decimal, decimal-first}
 use Rattle.sheets.proofs.Lines.{head-told, rows-told}
 use Rattle.sheets.proofs.Cut.{cut-told}
@@ -41,7 +40,3 @@ decimal-right = record { valued = value-decimal; no-leading-zero = decimal-first
 pub case-g : CaseG
 unfolding sheet sheetAnswer sheetBytes decimal lengthsOf judged
 case-g = record { text = refl; answer = refl; bytes = refl }
-
-pub read-g : ReadG
-unfolding unsheet decimal lengthsOf
-read-g = record { found = refl; unended = refl; longer = refl; twice = refl }

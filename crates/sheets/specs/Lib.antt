@@ -1,6 +1,5 @@
 pub mod Text
+pub mod ReadAs
 pub mod Sheet
 pub mod Writing
-pub mod Reading
-pub mod Unsheet
 pub mod Promises

@@ -2,9 +2,9 @@
 -- example.
 -- Assumes nothing.
 use mathlib.Core.Path.{_≡_}
-use mathlib.Core.List.{List, [], _∷_, _++_}
+use mathlib.Core.List.{List, [], _∷_}
 use Prim.Native.Nat.{ℕ}
-use lib.ListN.{length, getD, take, drop, replicate}
+use lib.ListN.{length, getD, replicate}
 use Rattle.answer.specs.Outcome.{done}
 use Rattle.answer.specs.Answers.{answerOf}
 use Rattle.answer.specs.declared.Answer.{Answer}
@@ -13,7 +13,7 @@ use Rattle.rows.specs.Storage.{cut, identifiers}
 use Rattle.rows.specs.Lengths.{lengthsOf}
 use Rattle.sheets.specs.Text.{digit, decimal}
 use Rattle.sheets.specs.Sheet.{sheetText, sheetAnswer, sheetBytes, WritesSheet}
-use Rattle.sheets.specs.Unsheet.{value, sheetOf, notAt, unsheet}
+use Rattle.sheets.specs.ReadAs.{value}
 
 -- Determined: two answers and outputs that the promise allows for one call are the same.
 abbrev pub Determined : Type 0
@@ -41,13 +41,13 @@ pub record DecimalRight : Type 0 where
 
 -- §1's example: the three rows of document 01's case G, with threshold 2. Line by line: `seal 2 3 1`, `row 1 2f`, `row 2 20`,
 -- `row 3 25`, with tabs for the blanks.
-abbrev rowsG : List ℕ
+abbrev pub rowsG : List ℕ
 rowsG = 0x01 ∷ 0x2f ∷ 0x02 ∷ 0x20 ∷ 0x03 ∷ 0x25 ∷ []
 
-abbrev lengthsG : List ℕ
+abbrev pub lengthsG : List ℕ
 lengthsG = 2 ∷ 0 ∷ 0 ∷ 0 ∷ 2 ∷ 0 ∷ 0 ∷ 0 ∷ 2 ∷ 0 ∷ 0 ∷ 0 ∷ []
 
-abbrev sheetG : List ℕ
+abbrev pub sheetG : List ℕ
 sheetG =
     115 ∷ 101 ∷ 97 ∷ 108 ∷ 9 ∷ 50 ∷ 9 ∷ 51 ∷ 9 ∷ 49 ∷ 10
     ∷ 114 ∷ 111 ∷ 119 ∷ 9 ∷ 49 ∷ 9 ∷ 50 ∷ 102 ∷ 10
@@ -59,10 +59,3 @@ pub record CaseG : Type 0 where
   pub text : sheetText 2 rowsG lengthsG ≡ sheetG
   pub answer : sheetAnswer 2 rowsG lengthsG 38 ≡ done 38
   pub bytes : sheetBytes 2 rowsG lengthsG (replicate 38 0) ≡ sheetG
-
--- .. and what is found in it, without its last line feed, with one more, and with the first row twice
-pub record ReadG : Type 0 where
-  pub found : unsheet sheetG ≡ sheetOf 2 1 (cut (lengthsOf lengthsG) rowsG)
-  pub unended : unsheet (take 37 sheetG) ≡ notAt 3
-  pub longer : unsheet (sheetG ++ (10 ∷ [])) ≡ notAt 4
-  pub twice : unsheet (take 20 sheetG ++ drop 11 sheetG) ≡ notAt 2

@@ -8,7 +8,7 @@ ghost use Rattle.sheets.specs.Text.{decimal};
 ghost use Rattle.sheets.specs.Sheet.{headLine, sheet};
 
 // The count of a number's digits. The numbers of a sheet have at most five.
-fn decimal_length(n: usize) -> usize
+pub fn decimal_length(n: usize) -> usize
     requires { ⌜ n < 100000 ⌝ }
     ensures { λ r. ⌜ (r ≡ length (decimal n)) × (r ≤ 5) ⌝ }
 {

@@ -3,4 +3,7 @@ mod length;
 mod put;
 mod write;
 
+pub use length::decimal_length;
+pub use put::LINE_FEED;
+pub use put::TAB;
 pub use write::write_sheet;

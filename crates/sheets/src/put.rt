@@ -9,9 +9,9 @@ ghost use Rattle.sheets.specs.Text.{tab, digit as digitOf, decimal, hexD
 ghost use Rattle.sheets.specs.Sheet.{headLine, rowLine, rowLines};
 ghost use Rattle.sheets.specs.Writing.{Puts};
 
-const TAB: u8 = 9;
+pub const TAB: u8 = 9;
 
-const LINE_FEED: u8 = 10;
+pub const LINE_FEED: u8 = 10;
 
 // The digit of a number under 10.
 fn digit(d: usize) -> u8

@@ -7,15 +7,15 @@ use Prim.Native.Nat.{ℕ, suc, _<_, _≤_}
 use native.Mathlib.Decide.{decLt}
 use native.Mathlib.Omega.{arith}
 use lib.ListN.{length}
 use Rattle.sheets.specs.Sheet.{headLine, rowLines}
-use Rattle.sheets.specs.Reading.{IsSheet, Continues, lineFeeds, firstLines, RefusedAt}
-use Rattle.sheets.specs.Unsheet.{Read, sheetOf, notAt, unsheet, UnsheetRight, EveryText, OnlyLine}
-use Rattle.sheets.proofs.TextLines.{first-again, fewer-lines, lines-first, line-counted}
-use Rattle.sheets.proofs.RightLines.{Head, head-line}
-use Rattle.sheets.proofs.Completed.{begins-continued, continued}
-use Rattle.sheets.proofs.Beginnings.{head-right, head-wrong, head-or-not}
-use Rattle.sheets.proofs.Stops.{unrows-stops}
-use Rattle.sheets.proofs.Unsheet.{no-rows, finds, stored, accepts}
+use Rattle.reading.specs.Reading.{IsSheet, Continues, lineFeeds, firstLines, RefusedAt}
+use Rattle.reading.specs.Unsheet.{Read, sheetOf, notAt, unsheet, UnsheetRight, EveryText, OnlyLine}
+use Rattle.reading.proofs.TextLines.{first-again, fewer-lines, lines-first, line-counted}
+use Rattle.reading.proofs.RightLines.{Head, head-line}
+use Rattle.reading.proofs.Completed.{begins-continued, continued}
+use Rattle.reading.proofs.Beginnings.{head-right, head-wrong, head-or-not}
+use Rattle.reading.proofs.Stops.{unrows-stops}
+use Rattle.reading.proofs.Unsheet.{no-rows, finds, stored, accepts}
 
 no-sheet : {text : List ℕ} {k : ℕ} → unsheet text ≡ notAt k → IsSheet text → ⊥
 no-sheet {text} e s = let f = finds text s in let z : _≡_ {A = ℕ} 0 1 = cc in omega arith

@@ -3,25 +3,27 @@
 use mathlib.Core.Path.{_≡_, sym, ap, ap₂, _∙_}
 use mathlib.Core.Bool.{true, not, _&&_}
 use mathlib.Core.List.{List, [], _∷_}
-use Prim.Native.Nat.{ℕ, _+_, _<_, _≤_}
+use Prim.Native.Nat.{ℕ, _+_, _≤_}
 use native.Mathlib.Omega.{arith}
 use lib.Dec.{eqb, ltb}
 use lib.ListN.{length, getD, drop}
 use lib.Seq.{drop-cons}
 use borrow.Author.Tests.{eqb-true, eq-eqb, ltb-true, ltb-false, lt-ltb, le-ltb, not-true}
-use Rattle.shamir.specs.Lists.{Below, Fresh}
+use Rattle.shamir.specs.Lists.{Fresh}
 use Rattle.rows.specs.Search.{placeOf, within}
 use Rattle.rows.proofs.Search.{fresh-of, place-fresh}
 use Rattle.sharing.specs.Limits.{maxShares, maxSecret}
 use Rattle.sheets.specs.Text.{decimal, hex}
 use Rattle.sheets.specs.Sheet.{sealWord, rowWord, headLine, rowLine}
-use Rattle.sheets.specs.Unsheet.{value, unhex, fieldAt, same, between, rightHead, rowOf, allBelow, rightRow}
+use Rattle.sheets.specs.ReadAs.{value, unhex}
+use Rattle.reading.specs.Unsheet.{fieldAt, same, between, rightHead, rowOf, allBelow, rightRow}
+use Rattle.reading.specs.Taking.{Row}
 use Rattle.sheets.proofs.DecimalValue.{value-decimal}
 use Rattle.sheets.proofs.Hex.{unhex-hex}
 use Rattle.sheets.proofs.Lines.{seal-plain, row-plain, Writable}
-use Rattle.sheets.proofs.TextLines.{IsLine, is-line}
-use Rattle.sheets.proofs.FieldsRead.{field-of}
-use Rattle.sheets.proofs.LineTests.{both, same-true, same-self, below-true, true-below, between-true, true-between}
+use Rattle.reading.proofs.TextLines.{IsLine, is-line}
+use Rattle.reading.proofs.FieldsRead.{field-of}
+use Rattle.reading.proofs.LineTests.{both, same-true, same-self, below-true, true-below, between-true, true-between}
 
 -- ---- the first line
 
@@ -68,11 +70,6 @@ module _ (t m l : ℕ) where
 -- ---- the line of a row
 
 -- a row of a sheet with l values a row
-pub record Row (l : ℕ) (row : List ℕ) : Type 0 where
-  pub long : length row ≡ l + 1
-  pub bytes : Below 256 row
-  pub nonzero : 0 < getD row 0 0
-
 pub row-true : (l : ℕ) (ids row line : List ℕ) → rightRow l ids row line ≡ true → Row l row × Fresh (getD row 0 0) ids × (line ≡ rowLine row)
 row-true l ids row line e =
     let id = getD row 0 0 in

@@ -19,11 +19,12 @@ use Rattle.sharing.specs.Limits.{maxSecret, maxShares}
 use Rattle.sharing.specs.RowSet.{secretLength, judged, judgedRows}
 use Rattle.sharing.specs.Demands.{laid}
 use Rattle.sharing.proofs.RowSet.{by-lengths}
 use Rattle.sheets.specs.Sheet.{sheet, sheetText, judgedThreshold, sheetAnswer}
-use Rattle.sheets.specs.Unsheet.{SheetOf}
+use Rattle.reading.specs.Unsheet.{SheetOf}
 use Rattle.sheets.proofs.LengthBytes.{lengthBytes}
-use Rattle.sheets.proofs.RightLines.{Head, Row}
-use Rattle.sheets.proofs.LaidRows.{cut-laid, sum-laid, below-laid, length-length-bytes, lengths-of, below-length-bytes}
+use Rattle.reading.specs.Taking.{Row}
+use Rattle.reading.proofs.RightLines.{Head}
+use Rattle.reading.proofs.LaidRows.{cut-laid, sum-laid, below-laid, length-length-bytes, lengths-of, below-length-bytes}
 
 -- rows of l values each, with different identifiers
 pub record Rows (l : ℕ) (rows : List (List ℕ)) : Type 0 where

@@ -10,16 +10,16 @@ use Rattle.rows.specs.Storage.{cut}
 use Rattle.rows.specs.Lengths.{lengthsOf}
 use Rattle.sharing.specs.RowSet.{secretLength}
 use Rattle.sharing.specs.Demands.{laid}
 use Rattle.sheets.specs.Sheet.{headLine, rowLines, sheet}
-use Rattle.sheets.specs.Reading.{IsSheet}
-use Rattle.sheets.specs.Unsheet.{Read, sheetOf, unsheet, SheetOf}
+use Rattle.reading.specs.Reading.{IsSheet}
+use Rattle.reading.specs.Unsheet.{Read, sheetOf, unsheet, SheetOf}
 use Rattle.sheets.proofs.Cut.{laid-cut}
 use Rattle.sheets.proofs.Accepted.{accepted-sheet, rows-fill}
-use Rattle.sheets.proofs.RightLines.{Head}
-use Rattle.sheets.proofs.RowsWritten.{Rows, rows-sheet}
-use Rattle.sheets.proofs.RowsAccepted.{sheet-rows}
-use Rattle.sheets.proofs.Beginnings.{head-right, head-wrong, head-or-not}
-use Rattle.sheets.proofs.Unrows.{unrows-finds, unrows-takes}
+use Rattle.reading.proofs.RightLines.{Head}
+use Rattle.reading.proofs.RowsWritten.{Rows, rows-sheet}
+use Rattle.reading.proofs.RowsAccepted.{sheet-rows}
+use Rattle.reading.proofs.Beginnings.{head-right, head-wrong, head-or-not}
+use Rattle.reading.proofs.Unrows.{unrows-finds, unrows-takes}
 
 pub no-rows : (l : ℕ) → Rows l []
 no-rows l = record { each = tt; distinct = tt }

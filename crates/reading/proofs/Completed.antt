@@ -9,11 +9,12 @@ use lib.Seq.{append-snoc}
 use Rattle.shamir.specs.Lists.{Below, Fresh, Distinct}
 use Rattle.shamir.proofs.Lists.{all-append}
 use Rattle.rows.specs.Storage.{identifiers}
 use Rattle.sheets.specs.Sheet.{headLine, rowLine, rowLines, sheet}
-use Rattle.sheets.specs.Reading.{IsSheet, Continues}
-use Rattle.sheets.proofs.RightLines.{Head, Row}
-use Rattle.sheets.proofs.FreshNumbers.{fresh-number, distinct-then}
-use Rattle.sheets.proofs.RowsWritten.{Rows, rows-sheet}
+use Rattle.reading.specs.Reading.{IsSheet, Continues}
+use Rattle.reading.specs.Taking.{Row}
+use Rattle.reading.proofs.RightLines.{Head}
+use Rattle.reading.proofs.FreshNumbers.{fresh-number, distinct-then}
+use Rattle.reading.proofs.RowsWritten.{Rows, rows-sheet}
 
 -- ---- one row more
 

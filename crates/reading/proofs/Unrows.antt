@@ -9,13 +9,13 @@ use lib.ListN.{length, getD}
 use lib.Seq.{append-snoc}
 use Rattle.shamir.specs.Lists.{All, Distinct}
 use Rattle.rows.specs.Storage.{identifiers}
 use Rattle.sheets.specs.Sheet.{rowLine, rowLines}
-use Rattle.sheets.specs.Unsheet.{sheetOf, unrows}
-use Rattle.sheets.proofs.RightLines.{Row}
-use Rattle.sheets.proofs.FreshNumbers.{distinct-before}
-use Rattle.sheets.proofs.RowsWritten.{Rows}
-use Rattle.sheets.proofs.Completed.{ids-append, rows-then}
-use Rattle.sheets.proofs.Beginnings.{row-or-not, row-right, row-wrong}
+use Rattle.reading.specs.Unsheet.{sheetOf, unrows}
+use Rattle.reading.specs.Taking.{Row}
+use Rattle.reading.proofs.FreshNumbers.{distinct-before}
+use Rattle.reading.proofs.RowsWritten.{Rows}
+use Rattle.reading.proofs.Completed.{ids-append, rows-then}
+use Rattle.reading.proofs.Beginnings.{row-or-not, row-right, row-wrong}
 
 module _ (t l : ℕ) where
   pub unrows-finds : (more rows : List (List ℕ)) (k : ℕ) → All (Row l) more → Distinct (identifiers (rows ++ more))

@@ -4,7 +4,7 @@ use mathlib.Core.Path.{_≡_}
 use mathlib.Core.Bool.{Bool, true, false, cond, not, _&&_, _||_}
 use mathlib.Core.List.{List, [], _∷_, _++_, map}
 use mathlib.Core.Logic.{_⊎_}
-use Prim.Native.Nat.{ℕ, zero, suc, _+_, _*_, _-_}
+use Prim.Native.Nat.{ℕ, zero, suc, _+_, _-_}
 use lib.Dec.{eqb, ltb}
 use lib.ListN.{length, getD}
 use Rattle.rows.specs.Search.{placeOf, within}
@@ -13,27 +13,10 @@ use Rattle.rows.specs.Lengths.{lengthsOf}
 use Rattle.sharing.specs.Limits.{maxShares, maxSecret}
 use Rattle.sharing.specs.RowSet.{secretLength}
 use Rattle.sharing.specs.Demands.{laid}
+use Rattle.sheets.specs.ReadAs.{value, unhex}
 use Rattle.sheets.specs.Text.{tab, lineFeed}
 use Rattle.sheets.specs.Sheet.{headLine, rowLine, sheet}
-use Rattle.sheets.specs.Reading.{IsSheet, firstLines, RefusedAt}
-
--- ---- what numbers and bytes are read as
-
--- the value of digits behind others that have the value v
-abbrev pub valueFrom : ℕ → List ℕ → ℕ
-valueFrom v [] = v
-valueFrom v (c ∷ cs) = valueFrom (v * 10 + (c - 48)) cs
-
-abbrev pub value : List ℕ → ℕ
-value cs = valueFrom 0 cs
-
-abbrev pub unhexDigit : ℕ → ℕ
-unhexDigit c = cond (ltb c 58) (c - 48) (c - 87)
-
-abbrev pub unhex : List ℕ → List ℕ
-unhex [] = []
-unhex (high ∷ []) = []
-unhex (high ∷ low ∷ digits) = (unhexDigit high * 16 + unhexDigit low) ∷ unhex digits
+use Rattle.reading.specs.Reading.{IsSheet, firstLines, RefusedAt}
 
 -- ---- a line
 

@@ -7,14 +7,14 @@ use Prim.Native.Nat.{ℕ, zero, suc, _+_, _<_, _≤_}
 use native.Mathlib.Omega.{arith}
 use lib.ListN.{length}
 use lib.Seq.{append-snoc}
 use Rattle.sheets.specs.Sheet.{rowLine, rowLines}
-use Rattle.sheets.specs.Reading.{lineFeeds, firstLines}
-use Rattle.sheets.specs.Unsheet.{notAt, unrows}
-use Rattle.sheets.proofs.TextLines.{first-again, lines-first, line-counted}
-use Rattle.sheets.proofs.RightLines.{row-line}
-use Rattle.sheets.proofs.RowsWritten.{Rows}
-use Rattle.sheets.proofs.Completed.{rows-then}
-use Rattle.sheets.proofs.Beginnings.{row-or-not, row-right, row-wrong}
+use Rattle.reading.specs.Reading.{lineFeeds, firstLines}
+use Rattle.reading.specs.Unsheet.{notAt, unrows}
+use Rattle.reading.proofs.TextLines.{first-again, lines-first, line-counted}
+use Rattle.reading.proofs.RightLines.{row-line}
+use Rattle.reading.proofs.RowsWritten.{Rows}
+use Rattle.reading.proofs.Completed.{rows-then}
+use Rattle.reading.proofs.Beginnings.{row-or-not, row-right, row-wrong}
 
 module _ (t l : ℕ) where
   -- a stop at line place, which is the line behind more rows

@@ -1,0 +1,11 @@
+-- The example is read by computation.
+-- Assumes nothing.
+use mathlib.Core.Path.{refl}
+use Rattle.rows.specs.Lengths.{lengthsOf}
+use Rattle.sheets.specs.Text.{decimal}
+use Rattle.reading.specs.Unsheet.{unsheet}
+use Rattle.reading.specs.Example.{ReadG}
+
+pub read-g : ReadG
+unfolding unsheet decimal lengthsOf
+read-g = record { found = refl; unended = refl; longer = refl; twice = refl }

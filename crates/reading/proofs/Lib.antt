@@ -1,0 +1,17 @@
+pub mod TextLines
+pub mod FieldsRead
+pub mod LineTests
+pub mod RightLines
+pub mod FreshNumbers
+pub mod LaidRows
+pub mod RowsWritten
+pub mod RowsAccepted
+pub mod Completed
+pub mod Beginnings
+pub mod Unrows
+pub mod Stops
+pub mod Unsheet
+pub mod Refusals
+pub mod DigitsRead
+pub mod RowLineRead
+pub mod Example

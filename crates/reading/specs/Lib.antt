@@ -1,0 +1,4 @@
+pub mod Reading
+pub mod Unsheet
+pub mod Taking
+pub mod Example

@@ -15,6 +15,7 @@ use borrow.Author.Tests.{eqb-true, eqb-false}
 use Rattle.shamir.specs.Lists.{All}
 use Rattle.shamir.proofs.Lists.{all-append}
 use Rattle.sheets.specs.Text.{decimal}
+use Rattle.sharing.proofs.Places.{all-in}
 use Rattle.sheets.specs.ReadAs.{IsDigit}
 use Rattle.reading.specs.Taking.{NumberAt}
 use Rattle.sheets.specs.ReadAs.{valueFrom, value}
@@ -78,11 +79,6 @@ no-further : (k : ℕ) (ds : List ℕ) (c : ℕ) (rest : List ℕ) → (IsDigit 
 no-further zero ds c rest n h = omega arith
 no-further (suc k) [] c rest n h = absurd (n (h .0))
 no-further (suc k) (d ∷ ds) c rest n h = omega (arith, no-further k ds c rest n (h .1))
-
-pub all-in : (P : ℕ → Type 0) (xs : List ℕ) (i : ℕ) → i < length xs → All P xs → P (getD xs i 0)
-all-in P [] i h a = absurd (omega arith)
-all-in P (x ∷ xs) zero h a = a .0
-all-in P (x ∷ xs) (suc i) h a = all-in P xs i (omega arith) (a .1)
 
 -- what is read once no further digit follows, or five were read
 module _ (text : List ℕ) (at : ℕ) {k v : ℕ} (d : Digits (drop at text) k v)

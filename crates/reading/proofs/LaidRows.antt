@@ -1,28 +1,15 @@
 -- Rows laid together, with their lengths as bytes, can be cut apart again.
 -- Assumes nothing.
-use mathlib.Core.Path.{_≡_, refl, sym, ap, ap₂, _∙_}
-use mathlib.Core.List.{List, [], _∷_, map}
-use Prim.Native.Nat.{ℕ, _+_, _*_, _/_, _%_, _^_, _<_}
+use mathlib.Core.Path.{_≡_, refl, ap, ap₂, _∙_}
+use mathlib.Core.List.{List, [], _∷_}
+use Prim.Native.Nat.{ℕ, _*_, _/_, _%_, _^_, _<_}
 use native.Mathlib.Omega.{arith}
-use lib.ListN.{length, length-append}
-use lib.Seq.{take-at, drop-at}
+use lib.ListN.{length}
 use Rattle.shamir.specs.Lists.{All, Below}
 use Rattle.shamir.proofs.Lists.{all-append}
-use Rattle.rows.specs.Search.{sum}
-use Rattle.rows.specs.Storage.{cut}
 use Rattle.rows.specs.Lengths.{four, fours, lengthsOf}
 use Rattle.sharing.specs.Demands.{laid}
 use Rattle.sheets.proofs.LengthBytes.{lengthBytes}
-
-pub cut-laid : (rows : List (List ℕ)) → cut (map length rows) (laid rows) ≡ rows
-cut-laid [] = refl
-cut-laid (r ∷ rows) =
-    ap₂ (λ a b. a ∷ cut (map length rows) b) (take-at r (laid rows) (length r) refl) (drop-at r (laid rows) (length r) refl)
-    ∙ ap (r ∷_) (cut-laid rows)
-
-pub sum-laid : (rows : List (List ℕ)) → sum (map length rows) ≡ length (laid rows)
-sum-laid [] = refl
-sum-laid (r ∷ rows) = ap (length r +_) (sum-laid rows) ∙ sym (length-append r (laid rows))
 
 pub below-laid : (n : ℕ) (rows : List (List ℕ)) → All (Below n) rows → Below n (laid rows)
 below-laid n [] h = tt

@@ -16,7 +16,7 @@ use Rattle.sheets.specs.ReadAs.{unhexDigit, unhex}
 use Rattle.sheets.specs.ReadAs.{IsHexDigit}
 use Rattle.reading.specs.Taking.{HexStands, Row, RowAt, rowAt}
 use Rattle.sheets.proofs.Hex.{length-hex, hex-digits}
-use Rattle.reading.proofs.DigitsRead.{all-in}
+use Rattle.sharing.proofs.Places.{all-in}
 
 -- what stands behind a piece
 pub behind : (text : List ℕ) (n m : ℕ) (ds rest : List ℕ) → drop n text ≡ ds ++ rest → m ≡ n + length ds → drop m text ≡ rest

@@ -24,7 +24,8 @@ use Rattle.reading.specs.Unsheet.{SheetOf}
 use Rattle.sheets.proofs.LengthBytes.{lengthBytes}
 use Rattle.reading.specs.Taking.{Row}
 use Rattle.reading.proofs.RightLines.{Head}
-use Rattle.reading.proofs.LaidRows.{cut-laid, sum-laid, below-laid, length-length-bytes, lengths-of, below-length-bytes}
+use Rattle.sharing.proofs.Laid.{cut-laid, sum-laid, not-within}
+use Rattle.reading.proofs.LaidRows.{below-laid, length-length-bytes, lengths-of, below-length-bytes}
 
 -- rows of l values each, with different identifiers
 pub record Rows (l : ℕ) (rows : List (List ℕ)) : Type 0 where
@@ -42,9 +43,6 @@ module _ (l : ℕ) where
 
   nonzero-ids : (rows : List (List ℕ)) → All (Row l) rows → Fresh 0 (identifiers rows)
   nonzero-ids rows k = all-map (Row l) (λ a. a ≡ 0 → ⊥) (λ r. getD r 0 0) (λ r h e. omega (arith, h .nonzero)) rows k
-
-not-within : (place : ℕ) (xs : List ℕ) → place ≡ length xs → within place xs ≡ false
-not-within place xs e = le-ltb place (length xs) (omega arith)
 
 module _ (t l : ℕ) (rows : List (List ℕ)) (h : Head t (length rows) l) (k : Rows l rows) where
   abbrev ns : List ℕ

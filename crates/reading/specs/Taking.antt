@@ -31,16 +31,17 @@ pub record ByteAt (text : List ℕ) (at b : ℕ) (r : Bool) : Type 0 where
   pub yes : r ≡ true → (at < length text) × (drop at text ≡ b ∷ drop (at + 1) text)
   pub no : r ≡ false → (rest : List ℕ) → drop at text ≡ b ∷ rest → ⊥
 
--- r is the identifier of the row with l values whose line stands there, or 0 where there is none
+-- the row with the identifier id and l values that its line there is read as
 abbrev pub rowAt : List ℕ → ℕ → ℕ → ℕ → List ℕ
 rowAt text at l id = id ∷ unhex (take (l * 2) (drop (at + 5 + length (decimal id)) text))
 
--- a row of a sheet with l values each
+-- a row of a sheet with l values a row
 pub record Row (l : ℕ) (row : List ℕ) : Type 0 where
   pub long : length row ≡ l + 1
   pub bytes : Below 256 row
   pub nonzero : 0 < getD row 0 0
 
+-- r is the identifier of the row with l values whose line stands there, or 0 where there is none
 pub record RowAt (text : List ℕ) (at l r : ℕ) : Type 0 where
   pub right : 0 < r → Row l (rowAt text at l r) × (drop at text ≡ rowLine (rowAt text at l r) ++ drop (at + 6 + length (decimal r) + l * 2) text)
   pub wrong : r ≡ 0 → (row rest : List ℕ) → Row l row → drop at text ≡ rowLine row ++ rest → ⊥

@@ -24,7 +24,7 @@ fn without_leading_zeros(v: usize, k: usize) -> usize
 }
 
 // The number that stands at a place; 0 where there is none.
-pub fn read_number(text: &[u8], at: usize) -> usize
+fn read_number(text: &[u8], at: usize) -> usize
     requires { ⌜ at ≤ length (now text) ⌝ }
     ensures { λ r. ⌜ NumberAt (now (text .entry)) at r ⌝ }
 {

@@ -21,13 +21,13 @@ use Rattle.sharing.specs.RowSet.{judged}
 use Rattle.sharing.specs.Combine.{combineOutcome, combineAnswer, combineBytes}
 use Rattle.sharing.specs.Demands.{laid}
 
-cut-laid : (rows : List (List ℕ)) → cut (map length rows) (laid rows) ≡ rows
+pub cut-laid : (rows : List (List ℕ)) → cut (map length rows) (laid rows) ≡ rows
 cut-laid [] = refl
 cut-laid (r ∷ rows) =
     ap₂ (λ a b. a ∷ cut (map length rows) b) (take-at r (laid rows) (length r) refl) (drop-at r (laid rows) (length r) refl)
     ∙ ap (r ∷_) (cut-laid rows)
 
-sum-laid : (rows : List (List ℕ)) → sum (map length rows) ≡ length (laid rows)
+pub sum-laid : (rows : List (List ℕ)) → sum (map length rows) ≡ length (laid rows)
 sum-laid [] = refl
 sum-laid (r ∷ rows) = ap (length r +_) (sum-laid rows) ∙ sym (length-append r (laid rows))
 
@@ -35,7 +35,7 @@ all-long : (w : ℕ) (rows : List (List ℕ)) → All (λ r. length r ≡ w) row
 all-long w [] h = refl
 all-long w (r ∷ rows) h = ap₂ _&&_ (eq-eqb (length r) w (h .0)) (all-long w rows (h .1))
 
-not-within : (place : ℕ) (xs : List ℕ) → place ≡ length xs → within place xs ≡ false
+pub not-within : (place : ℕ) (xs : List ℕ) → place ≡ length xs → within place xs ≡ false
 not-within place xs e = le-ltb place (length xs) (omega arith)
 
 -- the rows with identifiers xs, whose values f gives, l to a row

@@ -14,7 +14,7 @@ use Rattle.shamir.proofs.Lists.{all-at, all-map, all-both}
 abbrev pub idsAt : List ℕ → List ℕ → List ℕ
 idsAt ids places = map (λ p. getD ids p 0) places
 
-all-in : (P : ℕ → Type 0) (xs : List ℕ) (i : ℕ) → i < length xs → All P xs → P (getD xs i 0)
+pub all-in : (P : ℕ → Type 0) (xs : List ℕ) (i : ℕ) → i < length xs → All P xs → P (getD xs i 0)
 all-in P [] i h a = absurd (omega arith)
 all-in P (x ∷ xs) zero h a = a .0
 all-in P (x ∷ xs) (suc i) h a = all-in P xs i (omega arith) (a .1)

@@ -9,13 +9,13 @@ use Rattle.answer.specs.Answers.{reasonOf, answerOf, MeaningTells}
 use Rattle.answer.specs.declared.Answer.{Answer}
 use Rattle.answer.specs.declared.Answer.the-variants.{Done, Refused}
 use Rattle.answer.specs.declared.Reason.{Reason}
-use Rattle.answer.specs.declared.Reason.the-variants.{InvalidSizeRequest, InvalidSecret, SharingLimitLessThanThreshold, SharingMinThreshold, NotEnoughShareIdentifiers, SharingInvalidIdentifier, SharingDuplicateIdentifier, InvalidShare, InvalidShareElement, TooLong, CoefficientCount, NoRoom, RowLengths}
+use Rattle.answer.specs.declared.Reason.the-variants.{InvalidSizeRequest, InvalidSecret, SharingLimitLessThanThreshold, SharingMinThreshold, NotEnoughShareIdentifiers, SharingInvalidIdentifier, SharingDuplicateIdentifier, InvalidShare, InvalidShareElement, TooLong, CoefficientCount, NoRoom, RowLengths, InvalidSheet}
 
 -- the reasons by their numbers; no reason has the number 0
 abbrev table : ℕ → ℕ → List Reason
 table i j =
     RowLengths ∷ InvalidSizeRequest ∷ InvalidSecret ∷ SharingLimitLessThanThreshold ∷ SharingMinThreshold ∷ NotEnoughShareIdentifiers
-    ∷ SharingInvalidIdentifier i ∷ SharingDuplicateIdentifier i j ∷ InvalidShare ∷ InvalidShareElement ∷ TooLong ∷ CoefficientCount ∷ NoRoom ∷ []
+    ∷ SharingInvalidIdentifier i ∷ SharingDuplicateIdentifier i j ∷ InvalidShare ∷ InvalidShareElement ∷ TooLong ∷ CoefficientCount ∷ NoRoom ∷ RowLengths ∷ InvalidSheet i ∷ []
 
 abbrev back : Outcome → Answer
 back (done count) = Done count
@@ -35,6 +35,7 @@ back-reason TooLong = refl
 back-reason CoefficientCount = refl
 back-reason NoRoom = refl
 back-reason RowLengths = refl
+back-reason (InvalidSheet k) = refl
 
 back-answer : (a : Answer) → back (answerOf a) ≡ a
 back-answer (Done count) = refl
@@ -58,3 +59,4 @@ refusal TooLong = refl
 refusal CoefficientCount = refl
 refusal NoRoom = refl
 refusal RowLengths = refl
+refusal (InvalidSheet k) = refl

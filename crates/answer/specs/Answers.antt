@@ -5,9 +5,9 @@ use Rattle.answer.specs.Outcome.{Outcome, done, refused}
 use Rattle.answer.specs.declared.Answer.{Answer}
 use Rattle.answer.specs.declared.Answer.the-variants.{Done, Refused}
 use Rattle.answer.specs.declared.Reason.{Reason}
-use Rattle.answer.specs.declared.Reason.the-variants.{InvalidSizeRequest, InvalidSecret, SharingLimitLessThanThreshold, SharingMinThreshold, NotEnoughShareIdentifiers, SharingInvalidIdentifier, SharingDuplicateIdentifier, InvalidShare, InvalidShareElement, TooLong, CoefficientCount, NoRoom, RowLengths}
+use Rattle.answer.specs.declared.Reason.the-variants.{InvalidSizeRequest, InvalidSecret, SharingLimitLessThanThreshold, SharingMinThreshold, NotEnoughShareIdentifiers, SharingInvalidIdentifier, SharingDuplicateIdentifier, InvalidShare, InvalidShareElement, TooLong, CoefficientCount, NoRoom, RowLengths, InvalidSheet}
 
--- the rows of 01's table, in its order: 6 has one place, 7 has two
+-- the rows of 01's table, in its order: 6 has one place, 7 has two; 14 is 02's, §2, and has its line
 abbrev pub reasonOf : Reason → Outcome
 reasonOf InvalidSizeRequest = refused 1 0 0
 reasonOf InvalidSecret = refused 2 0 0
@@ -22,6 +22,7 @@ reasonOf TooLong = refused 10 0 0
 reasonOf CoefficientCount = refused 11 0 0
 reasonOf NoRoom = refused 12 0 0
 reasonOf RowLengths = refused 13 0 0
+reasonOf (InvalidSheet k) = refused 14 k 0
 
 -- an answer is done with its count, or refused for its reason
 abbrev pub answerOf : Answer → Outcome

@@ -1,9 +1,9 @@
-// What the functions of this library answer: done with a count, or refused for a reason of document 01's table.
+// What the functions of this library answer: done with a count, or refused for a reason of document 01's table, or of 02's after it.
 ghost use mathlib.Core.Path.{_≡_};
 ghost use Rattle.answer.specs.Outcome.{numberOf, firstOf, secondOf};
 ghost use Rattle.answer.specs.Answers.{reasonOf};
 
-// The reasons in the table's order, numbers 1 to 13, with the places inside.
+// The reasons in the table's order, numbers 1 to 14, with the places inside.
 pub enum Reason {
     InvalidSizeRequest,
     InvalidSecret,
@@ -20,6 +20,8 @@ pub enum Reason {
     CoefficientCount,
     NoRoom,
     RowLengths,
+    // The line.
+    InvalidSheet(usize),
 }
 
 pub enum Answer {
@@ -46,6 +48,7 @@ impl Reason {
             Reason::CoefficientCount => 11,
             Reason::NoRoom => 12,
             Reason::RowLengths => 13,
+            Reason::InvalidSheet(_) => 14,
         }
     }
 
@@ -67,6 +70,7 @@ impl Reason {
             Reason::CoefficientCount => 0,
             Reason::NoRoom => 0,
             Reason::RowLengths => 0,
+            Reason::InvalidSheet(k) => k,
         }
     }
 
@@ -88,6 +92,7 @@ impl Reason {
             Reason::CoefficientCount => 0,
             Reason::NoRoom => 0,
             Reason::RowLengths => 0,
+            Reason::InvalidSheet(_) => 0,
         }
     }
 }

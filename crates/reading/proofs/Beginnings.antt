@@ -12,9 +12,9 @@ use Rattle.sheets.specs.Sheet.{headLine, rowLine}
 use Rattle.reading.specs.Reading.{firstLines}
 use Rattle.sheets.specs.ReadAs.{value}
 use Rattle.reading.specs.Unsheet.{fieldAt, afterLine, rightHead, rowOf, rightRow, Read, notAt, unrows, unsheet}
+use Rattle.reading.specs.Lines.{Head, Row}
 use Rattle.reading.proofs.TextLines.{IsLine, line-and-rest, lines-first, line-behind}
-use Rattle.reading.specs.Taking.{Row}
-use Rattle.reading.proofs.RightLines.{Head, head-true, true-head, head-line, head-read, row-true, true-row, row-line, row-read}
+use Rattle.reading.proofs.RightLines.{head-true, true-head, head-line, head-read, row-true, true-row, row-line, row-read}
 
 first-is : {x : List ℕ} → IsLine x → (v : List ℕ) → firstLines 1 (x ++ v) ≡ x
 first-is {x} i v = lines-first i v 0 ∙ append-nil x

@@ -11,10 +11,9 @@ use Rattle.shamir.proofs.Lists.{all-append}
 use Rattle.rows.specs.Storage.{identifiers}
 use Rattle.sheets.specs.Sheet.{headLine, rowLine, rowLines, sheet}
 use Rattle.reading.specs.Reading.{IsSheet, Continues}
-use Rattle.reading.specs.Taking.{Row}
-use Rattle.reading.proofs.RightLines.{Head}
+use Rattle.reading.specs.Lines.{Head, Row, Rows}
 use Rattle.reading.proofs.FreshNumbers.{fresh-number, distinct-then}
-use Rattle.reading.proofs.RowsWritten.{Rows, rows-sheet}
+use Rattle.reading.proofs.RowsWritten.{rows-sheet}
 
 -- ---- one row more
 

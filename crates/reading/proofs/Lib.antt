@@ -12,6 +12,4 @@ pub mod Unrows
 pub mod Stops
 pub mod Unsheet
 pub mod Refusals
-pub mod DigitsRead
-pub mod RowLineRead
 pub mod Example

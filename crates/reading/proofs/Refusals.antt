@@ -10,8 +10,9 @@ use lib.ListN.{length}
 use Rattle.sheets.specs.Sheet.{headLine, rowLines}
 use Rattle.reading.specs.Reading.{IsSheet, Continues, lineFeeds, firstLines, RefusedAt}
 use Rattle.reading.specs.Unsheet.{Read, sheetOf, notAt, unsheet, UnsheetRight, EveryText, OnlyLine}
+use Rattle.reading.specs.Lines.{Head}
 use Rattle.reading.proofs.TextLines.{first-again, fewer-lines, lines-first, line-counted}
-use Rattle.reading.proofs.RightLines.{Head, head-line}
+use Rattle.reading.proofs.RightLines.{head-line}
 use Rattle.reading.proofs.Completed.{begins-continued, continued}
 use Rattle.reading.proofs.Beginnings.{head-right, head-wrong, head-or-not}
 use Rattle.reading.proofs.Stops.{unrows-stops}

@@ -17,7 +17,7 @@ use Rattle.sheets.specs.Text.{decimal, hex}
 use Rattle.sheets.specs.Sheet.{sealWord, rowWord, headLine, rowLine}
 use Rattle.sheets.specs.ReadAs.{value, unhex}
 use Rattle.reading.specs.Unsheet.{fieldAt, same, between, rightHead, rowOf, allBelow, rightRow}
-use Rattle.reading.specs.Taking.{Row}
+use Rattle.reading.specs.Lines.{Head, Row}
 use Rattle.sheets.proofs.DecimalValue.{value-decimal}
 use Rattle.sheets.proofs.Hex.{unhex-hex}
 use Rattle.sheets.proofs.Lines.{seal-plain, row-plain, Writable}
@@ -26,14 +26,6 @@ use Rattle.reading.proofs.FieldsRead.{field-of}
 use Rattle.reading.proofs.LineTests.{both, same-true, same-self, below-true, true-below, between-true, true-between}
 
 -- ---- the first line
-
-pub record Head (t m l : ℕ) : Type 0 where
-  pub threshold-least : 2 ≤ t
-  pub threshold-most : t ≤ maxShares
-  pub some-rows : 1 ≤ m
-  pub rows-most : m ≤ maxShares
-  pub some-values : 1 ≤ l
-  pub values-most : l ≤ maxSecret
 
 module _ (t m l : ℕ) where
   pub head-true : (line : List ℕ) → rightHead t m l line ≡ true → Head t m l × (line ≡ headLine t m l)

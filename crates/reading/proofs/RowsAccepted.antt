@@ -18,11 +18,9 @@ use Rattle.rows.proofs.Pigeonhole.{pigeonhole}
 use Rattle.sharing.specs.RowSet.{secretLength}
 use Rattle.sharing.proofs.RowSet.{AcceptedRows}
 use Rattle.reading.specs.Reading.{IsSheet}
+use Rattle.reading.specs.Lines.{Head, Row, Rows}
 use Rattle.sheets.proofs.Lines.{Writable}
 use Rattle.sheets.proofs.Accepted.{accepted-sheet, rows-writable}
-use Rattle.reading.specs.Taking.{Row}
-use Rattle.reading.proofs.RightLines.{Head}
-use Rattle.reading.proofs.RowsWritten.{Rows}
 
 cut-long : (m w : ℕ) (s : List ℕ) → sum (replicate m w) ≤ length s → All (λ r. length r ≡ w) (cut (replicate m w) s)
 cut-long zero w s h = tt

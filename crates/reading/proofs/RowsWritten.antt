@@ -21,16 +21,10 @@ use Rattle.sharing.specs.Demands.{laid}
 use Rattle.sharing.proofs.RowSet.{by-lengths}
 use Rattle.sheets.specs.Sheet.{sheet, sheetText, judgedThreshold, sheetAnswer}
 use Rattle.reading.specs.Unsheet.{SheetOf}
+use Rattle.reading.specs.Lines.{Head, Row, Rows}
 use Rattle.sheets.proofs.LengthBytes.{lengthBytes}
-use Rattle.reading.specs.Taking.{Row}
-use Rattle.reading.proofs.RightLines.{Head}
 use Rattle.sharing.proofs.Laid.{cut-laid, sum-laid, not-within}
 use Rattle.reading.proofs.LaidRows.{below-laid, length-length-bytes, lengths-of, below-length-bytes}
-
--- rows of l values each, with different identifiers
-pub record Rows (l : ℕ) (rows : List (List ℕ)) : Type 0 where
-  pub each : All (Row l) rows
-  pub distinct : Distinct (identifiers rows)
 
 module _ (l : ℕ) where
   first-long : (rows : List (List ℕ)) → 0 < length rows → All (Row l) rows → getD (map length rows) 0 0 ≡ l + 1

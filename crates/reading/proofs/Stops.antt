@@ -10,9 +10,9 @@ use lib.Seq.{append-snoc}
 use Rattle.sheets.specs.Sheet.{rowLine, rowLines}
 use Rattle.reading.specs.Reading.{lineFeeds, firstLines}
 use Rattle.reading.specs.Unsheet.{notAt, unrows}
+use Rattle.reading.specs.Lines.{Rows}
 use Rattle.reading.proofs.TextLines.{first-again, lines-first, line-counted}
 use Rattle.reading.proofs.RightLines.{row-line}
-use Rattle.reading.proofs.RowsWritten.{Rows}
 use Rattle.reading.proofs.Completed.{rows-then}
 use Rattle.reading.proofs.Beginnings.{row-or-not, row-right, row-wrong}
 

@@ -11,9 +11,8 @@ use Rattle.shamir.specs.Lists.{All, Distinct}
 use Rattle.rows.specs.Storage.{identifiers}
 use Rattle.sheets.specs.Sheet.{rowLine, rowLines}
 use Rattle.reading.specs.Unsheet.{sheetOf, unrows}
-use Rattle.reading.specs.Taking.{Row}
+use Rattle.reading.specs.Lines.{Row, Rows}
 use Rattle.reading.proofs.FreshNumbers.{distinct-before}
-use Rattle.reading.proofs.RowsWritten.{Rows}
 use Rattle.reading.proofs.Completed.{ids-append, rows-then}
 use Rattle.reading.proofs.Beginnings.{row-or-not, row-right, row-wrong}
 

@@ -13,10 +13,10 @@ use Rattle.sharing.specs.Demands.{laid}
 use Rattle.sheets.specs.Sheet.{headLine, rowLines, sheet}
 use Rattle.reading.specs.Reading.{IsSheet}
 use Rattle.reading.specs.Unsheet.{Read, sheetOf, unsheet, SheetOf}
+use Rattle.reading.specs.Lines.{Head, Rows}
 use Rattle.sheets.proofs.Cut.{laid-cut}
 use Rattle.sheets.proofs.Accepted.{accepted-sheet, rows-fill}
-use Rattle.reading.proofs.RightLines.{Head}
-use Rattle.reading.proofs.RowsWritten.{Rows, rows-sheet}
+use Rattle.reading.proofs.RowsWritten.{rows-sheet}
 use Rattle.reading.proofs.RowsAccepted.{sheet-rows}
 use Rattle.reading.proofs.Beginnings.{head-right, head-wrong, head-or-not}
 use Rattle.reading.proofs.Unrows.{unrows-finds, unrows-takes}

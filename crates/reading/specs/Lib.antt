@@ -1,4 +1,5 @@
 pub mod Reading
+pub mod Lines
 pub mod Unsheet
-pub mod Taking
+pub mod Answer
 pub mod Example

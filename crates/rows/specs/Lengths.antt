@@ -1,12 +1,16 @@
 -- Row lengths that come as bytes, four a row, least first.
 -- Assumes nothing.
 use mathlib.Core.List.{List, [], _∷_}
-use Prim.Native.Nat.{ℕ, zero, suc, _+_, _*_, _/_, _^_}
+use Prim.Native.Nat.{ℕ, zero, suc, _+_, _*_, _/_, _%_, _^_}
 use lib.ListN.{length, getD, drop}
 
 -- the number that four bytes make
 abbrev pub four : ℕ → ℕ → ℕ → ℕ → ℕ
 four a b c d = a + b * 2 ^ 8 + c * 2 ^ 16 + d * 2 ^ 24
+
+-- the four bytes of a number, least first
+abbrev pub fourBytes : ℕ → List ℕ
+fourBytes n = n % 2 ^ 8 ∷ n / 2 ^ 8 % 2 ^ 8 ∷ n / 2 ^ 16 % 2 ^ 8 ∷ n / 2 ^ 24 ∷ []
 
 -- the numbers of the first m fours
 abbrev pub fours : ℕ → List ℕ → List ℕ

@@ -6,11 +6,7 @@ use Prim.Native.Nat.{ℕ, zero, suc, _+_, _*_, _/_, _%_, _^_, _<_}
 use native.Mathlib.Omega.{arith}
 use lib.ListN.{length}
 use Rattle.shamir.specs.Lists.{Below}
-use Rattle.rows.specs.Lengths.{four, fours, lengthsOf}
-
--- the four bytes of a number, least first
-abbrev pub fourBytes : ℕ → List ℕ
-fourBytes n = n % 2 ^ 8 ∷ n / 2 ^ 8 % 2 ^ 8 ∷ n / 2 ^ 16 % 2 ^ 8 ∷ n / 2 ^ 24 ∷ []
+use Rattle.rows.specs.Lengths.{four, fourBytes, fours, lengthsOf}
 
 abbrev pub lengthBytes : List ℕ → List ℕ
 lengthBytes [] = []

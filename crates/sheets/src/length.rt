@@ -28,7 +28,7 @@ pub fn decimal_length(n: usize) -> usize
 }
 
 // Of the first line: its word, three tabs, a line feed, and three numbers.
-fn head_length(threshold: usize, m: usize, l: usize) -> usize
+pub fn head_length(threshold: usize, m: usize, l: usize) -> usize
     requires { ⌜ (threshold ≤ maxShares) × (m ≤ maxRows) × (l ≤ maxSecret) ⌝ }
     ensures { λ r. ⌜ (r ≡ length (headLine threshold m l)) × (r ≤ 23) ⌝ }
 {
@@ -36,7 +36,7 @@ fn head_length(threshold: usize, m: usize, l: usize) -> usize
 }
 
 // Of a row's line with l values: the identifier's digits, two a value, and six more.
-fn row_length(id: u8, l: usize) -> usize
+pub fn row_length(id: u8, l: usize) -> usize
     requires { ⌜ l ≤ maxSecret ⌝ }
     ensures { λ r. ⌜ (r ≡ length (decimal id) + 2 * l + 6) × (r ≤ 2 * maxSecret + 11) ⌝ }
 {

@@ -4,6 +4,8 @@ mod put;
 mod write;
 
 pub use length::decimal_length;
+pub use length::head_length;
+pub use length::row_length;
 pub use put::LINE_FEED;
 pub use put::TAB;
 pub use write::write_sheet;

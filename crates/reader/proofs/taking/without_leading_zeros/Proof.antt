@@ -6,8 +6,8 @@ use borrow.Author.Needs.{needs}
 use borrow.Author.Tests.{eq-eqb, ne-eqb}
 use lib.ListN.{length}
 use Rattle.sheets.specs.Text.{decimal}
-use Rattle.reading.proofs.without_leading_zeros.Statement.{statement}
-use Rattle.reading.proofs.without_leading_zeros.Tie as tie
+use Rattle.reader.proofs.taking.without_leading_zeros.Statement.{statement}
+use Rattle.reader.proofs.taking.without_leading_zeros.Tie as tie
 
 decimal-length-requires : tie.Need-decimal-length-requires
 decimal-length-requires c κs = search needs

@@ -5,9 +5,9 @@ use Prim.Native.Nat.{_+_, _-_}
 use native.Mathlib.Omega.{arith}
 use lib.ListN.{getD, drop, length-drop}
 use lib.Seq.{getD-drop}
-use Rattle.reading.proofs.DigitsRead.{Digits, no-digits, small, one-more, number-read}
-use Rattle.reading.proofs.read_number.Statement.{statement}
-use Rattle.reading.proofs.read_number.Tie as tie
+use Rattle.reader.proofs.DigitsRead.{Digits, no-digits, small, one-more, number-read}
+use Rattle.reader.proofs.taking.read_number.Statement.{statement}
+use Rattle.reader.proofs.taking.read_number.Tie as tie
 
 abbrev Inv-loop : tie.InvT-loop
 Inv-loop text at v₀ k₀ i₀ v k i = (i ≡ at + k) × Digits (drop at text) k v

@@ -8,9 +8,9 @@ use lib.ListN.{length, getD}
 use borrow.Author.Needs.{needs}
 use borrow.Author.Tests.{not-true, not-false}
 use Rattle.sheets.specs.Text.{decimal}
-use Rattle.reading.proofs.RowLineRead.{behind, number-there, id-small, tab-there, hex-there, end-there, row-passes, no-row-here}
-use Rattle.reading.proofs.read_row.Statement.{statement}
-use Rattle.reading.proofs.read_row.Tie as tie
+use Rattle.reader.proofs.RowLineRead.{behind, number-there, id-small, tab-there, hex-there, end-there, row-passes, no-row-here}
+use Rattle.reader.proofs.lines.read_row.Statement.{statement}
+use Rattle.reader.proofs.lines.read_row.Tie as tie
 
 is-at-requires : tie.Need-is-at-requires
 is-at-requires c κs = search needs

@@ -9,8 +9,8 @@ use lib.ListN.{length, getD, drop, length-drop}
 use lib.Seq.{drop-cons}
 use borrow.Author.Needs.{needs}
 use borrow.Author.Tests.{eqb-true, eqb-false}
-use Rattle.reading.proofs.is_at.Statement.{statement}
-use Rattle.reading.proofs.is_at.Tie as tie
+use Rattle.reader.proofs.taking.is_at.Statement.{statement}
+use Rattle.reader.proofs.taking.is_at.Tie as tie
 
 returns : tie.Need-returns
 returns c =

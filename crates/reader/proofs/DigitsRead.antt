@@ -17,7 +17,7 @@ use Rattle.shamir.proofs.Lists.{all-append}
 use Rattle.sheets.specs.Text.{decimal}
 use Rattle.sharing.proofs.Places.{all-in}
 use Rattle.sheets.specs.ReadAs.{IsDigit}
-use Rattle.reading.specs.Taking.{NumberAt}
+use Rattle.reader.specs.Taking.{NumberAt}
 use Rattle.sheets.specs.ReadAs.{valueFrom, value}
 use Rattle.sheets.proofs.Decimal.{decimal-short}
 use Rattle.sheets.proofs.DecimalValue.{decimal-digits, value-append, value-decimal}

@@ -14,7 +14,8 @@ use Rattle.sheets.specs.Text.{decimal, hexDigit, hex}
 use Rattle.sheets.specs.Sheet.{rowLine}
 use Rattle.sheets.specs.ReadAs.{unhexDigit, unhex}
 use Rattle.sheets.specs.ReadAs.{IsHexDigit}
-use Rattle.reading.specs.Taking.{HexStands, Row, RowAt, rowAt}
+use Rattle.reading.specs.Lines.{Row}
+use Rattle.reader.specs.Taking.{HexStands, RowAt, rowAt}
 use Rattle.sheets.proofs.Hex.{length-hex, hex-digits}
 use Rattle.sharing.proofs.Places.{all-in}
 

@@ -10,18 +10,15 @@ use lib.Seq.{drop-drop, drop-at, take-at, length-take-le}
 use borrow.Author.Tests.{lt-ltb, le-ltb}
 use Rattle.shamir.specs.Lists.{All, Below}
 use Rattle.shamir.proofs.Lists.{all-drop}
+use Rattle.sharing.specs.Limits.{maxShares}
 use Rattle.sheets.specs.Text.{decimal, hexDigit, hex}
-use Rattle.sheets.specs.Sheet.{rowLine}
-use Rattle.sheets.specs.ReadAs.{unhexDigit, unhex}
-use Rattle.sheets.specs.ReadAs.{IsHexDigit}
+use Rattle.sheets.specs.Sheet.{rowWord, rowLine}
+use Rattle.sheets.specs.ReadAs.{IsHexDigit, unhexDigit, unhex}
 use Rattle.reading.specs.Lines.{Row}
-use Rattle.reader.specs.Taking.{HexStands, RowAt, rowAt}
+use Rattle.reader.specs.Taking.{HexStands, FieldAt, RowAt, rowAt}
 use Rattle.sheets.proofs.Hex.{length-hex, hex-digits}
+use Rattle.reader.proofs.WordRead.{behind}
 use Rattle.sharing.proofs.Places.{all-in}
-
--- what stands behind a piece
-pub behind : (text : List ℕ) (n m : ℕ) (ds rest : List ℕ) → drop n text ≡ ds ++ rest → m ≡ n + length ds → drop m text ≡ rest
-behind text n m ds rest e is = ap (λ k. drop k text) is ∙ sym (drop-drop (length ds) n text) ∙ ap (drop (length ds)) e ∙ drop-at ds rest (length ds) refl
 
 pieces : (d h rest : List ℕ) → (d ++ 9 ∷ (h ++ (10 ∷ []))) ++ rest ≡ d ++ 9 ∷ (h ++ 10 ∷ rest)
 pieces d h rest = append-assoc d (9 ∷ (h ++ (10 ∷ []))) rest ∙ ap (λ x. d ++ 9 ∷ x) (append-assoc h (10 ∷ []) rest)
@@ -29,6 +26,9 @@ pieces d h rest = append-assoc d (9 ∷ (h ++ (10 ∷ []))) rest ∙ ap (λ x. d
 -- ---- a row's line stands there
 
 module _ (text : List ℕ) (at l : ℕ) (row rest : List ℕ) (g : Row l row) (f : drop at text ≡ rowLine row ++ rest) where
+  pub field-there : drop (at + 3) text ≡ 9 ∷ (decimal (getD row 0 0) ++ 9 ∷ (hex (drop 1 row) ++ 10 ∷ rest))
+  field-there = behind text at (at + 3) (114 ∷ 111 ∷ 119 ∷ []) _ f refl ∙ ap (9 ∷_) (pieces (decimal (getD row 0 0)) (hex (drop 1 row)) rest)
+
   pub number-there : drop (at + 4) text ≡ decimal (getD row 0 0) ++ 9 ∷ (hex (drop 1 row) ++ 10 ∷ rest)
   number-there = behind text at (at + 4) (114 ∷ 111 ∷ 119 ∷ 9 ∷ []) _ f refl ∙ pieces (decimal (getD row 0 0)) (hex (drop 1 row)) rest
 
@@ -82,40 +82,69 @@ hex-unhex (suc l) (c ∷ d ∷ cs) e h =
       omega (arith, r .2),
     )
 
-pub no-row-here : (text : List ℕ) (at l : ℕ) → ((row rest : List ℕ) → Row l row → drop at text ≡ rowLine row ++ rest → ⊥) → RowAt text at l 0
-no-row-here text at l n = record { right = λ some. absurd (omega arith); wrong = λ e. n }
+-- ---- one test after another
 
-module _ (text : List ℕ) (at l r q : ℕ) (some : 0 < r) (few : r < 256) (is : q ≡ at + 4 + length (decimal r)) (stands : HexStands text (q + 1) (l * 2)) where
-  digits : List ℕ
-  digits = take (l * 2) (drop (q + 1) text)
+no-row : (text : List ℕ) (at l : ℕ) → ((row rest : List ℕ) → Row l row → drop at text ≡ rowLine row ++ rest → ⊥) → RowAt text at l 0
+no-row text at l n = record { right = λ some. absurd (omega arith); wrong = λ e. n }
 
-  read : (hex (unhex digits) ≡ digits) × Below 256 (unhex digits) × (length (unhex digits) ≡ l)
-  unfolding digits
-  read = hex-unhex l (take (l * 2) (drop (q + 1) text)) (length-take-le (l * 2) (drop (q + 1) text) (stands .0)) (stands .1)
+-- without its word there is no row, ..
+pub no-word : (text : List ℕ) (at l : ℕ) → ((rest : List ℕ) → drop at text ≡ rowWord ++ rest → ⊥) → RowAt text at l 0
+no-word text at l n = no-row text at l (λ row rest g f. n _ f)
 
-  row-is : rowAt text at l r ≡ r ∷ unhex digits
-  unfolding digits
-  row-is = let e : at + 5 + length (decimal r) ≡ q + 1 = omega arith in ap (λ k. r ∷ unhex (take (l * 2) (drop k text))) e
+module _ (text : List ℕ) (at l : ℕ) {r : ℕ} (field : FieldAt text (at + 3) 1 maxShares r) where
+  id-is : (row rest : List ℕ) → Row l row → drop at text ≡ rowLine row ++ rest → r ≡ getD row 0 0
+  id-is row rest g f =
+      field .only (getD row 0 0) 9 _ (g .nonzero) (omega (arith, id-small text at l row rest g f)) (λ d. omega (arith, d .0)) (field-there text at l row rest g f)
 
-  values-are : drop (q + 1) text ≡ hex (unhex digits) ++ drop (q + 1 + l * 2) text
-  unfolding digits
-  values-are = sym (take-append-drop (l * 2) (drop (q + 1) text)) ∙ ap₂ _++_ (sym (read .0)) (drop-drop (l * 2) (q + 1) text)
+  -- .. nor without its identifier, ..
+  pub no-id : r ≡ 0 → RowAt text at l 0
+  no-id e = no-row text at l (λ row rest g f. omega (arith, id-is row rest g f, g .nonzero))
 
-  pub row-passes : drop at text ≡ 114 ∷ drop (at + 1) text → drop (at + 1) text ≡ 111 ∷ drop (at + 1 + 1) text → drop (at + 2) text ≡ 119 ∷ drop (at + 2 + 1) text
-      → drop (at + 3) text ≡ 9 ∷ drop (at + 3 + 1) text → drop (at + 4) text ≡ decimal r ++ drop (at + 4 + length (decimal r)) text → drop q text ≡ 9 ∷ drop (q + 1) text
-      → drop (q + 1 + l * 2) text ≡ 10 ∷ drop (q + 1 + l * 2 + 1) text
-      → Row l (rowAt text at l r) × (drop at text ≡ rowLine (rowAt text at l r) ++ drop (at + 6 + length (decimal r) + l * 2) text)
-  row-passes c₀ c₁ c₂ c₃ number parted ended =
-      let two : at + 1 + 1 ≡ at + 2 = omega arith in
-      let three : at + 2 + 1 ≡ at + 3 = omega arith in
-      let four : at + 3 + 1 ≡ at + 4 = omega arith in
-      let next : q + 1 + l * 2 + 1 ≡ at + 6 + length (decimal r) + l * 2 = omega arith in
-      let word : drop at text ≡ 114 ∷ 111 ∷ 119 ∷ 9 ∷ drop (at + 4) text =
-      c₀ ∙ ap (114 ∷_) (c₁ ∙ ap (111 ∷_) (ap (λ k. drop k text) two ∙ c₂ ∙ ap (119 ∷_) (ap (λ k. drop k text) three ∙ c₃ ∙ ap (λ k. 9 ∷ drop k text) four))) in
-      let values : drop (q + 1) text ≡ hex (unhex digits) ++ drop (q + 1 + l * 2) text = values-are in
-      let behind-number : drop (at + 4) text ≡ decimal r ++ 9 ∷ (hex (unhex digits) ++ 10 ∷ drop (at + 6 + length (decimal r) + l * 2) text) =
-      number ∙ ap (decimal r ++_) (ap (λ k. drop k text) (sym is) ∙ parted ∙ ap (9 ∷_) (values ∙ ap (hex (unhex digits) ++_) (ended ∙ ap (λ k. 10 ∷ drop k text) next))) in
-      subst (λ row. Row l row × (drop at text ≡ rowLine row ++ drop (at + 6 + length (decimal r) + l * 2) text)) (sym row-is) (
-        record { long = omega (arith, read .2); bytes = (few, read .1); nonzero = some },
-        word ∙ ap (λ x. 114 ∷ 111 ∷ 119 ∷ 9 ∷ x) (behind-number ∙ sym (pieces (decimal r) (hex (unhex digits)) (drop (at + 6 + length (decimal r) + l * 2) text))),
-      )
+  module _ {q : ℕ} (is : q ≡ at + 4 + length (decimal r)) where
+    behind-id : (row rest : List ℕ) → Row l row → drop at text ≡ rowLine row ++ rest → q ≡ at + 4 + length (decimal (getD row 0 0))
+    behind-id row rest g f = is ∙ ap (λ x. at + 4 + length (decimal x)) (id-is row rest g f)
+
+    -- .. the tab behind it, ..
+    pub no-tab : ((rest : List ℕ) → drop q text ≡ 9 ∷ rest → ⊥) → RowAt text at l 0
+    no-tab n = no-row text at l (λ row rest g f. n _ (tab-there text at l row rest g f q (behind-id row rest g f)))
+
+    -- .. its values, ..
+    pub no-values : (HexStands text (q + 1) (l * 2) → ⊥) → RowAt text at l 0
+    no-values n = no-row text at l (λ row rest g f. n (hex-there text at l row rest g f q (behind-id row rest g f)))
+
+    -- .. and its line feed
+    pub no-end : ((rest : List ℕ) → drop (q + 1 + l * 2) text ≡ 10 ∷ rest → ⊥) → RowAt text at l 0
+    no-end n = no-row text at l (λ row rest g f. n _ (end-there text at l row rest g f q (behind-id row rest g f)))
+
+    -- with all of them there is one
+    module _ (some : 0 < r) (stands : HexStands text (q + 1) (l * 2)) where
+      digits : List ℕ
+      digits = take (l * 2) (drop (q + 1) text)
+
+      read : (hex (unhex digits) ≡ digits) × Below 256 (unhex digits) × (length (unhex digits) ≡ l)
+      unfolding digits
+      read = hex-unhex l (take (l * 2) (drop (q + 1) text)) (length-take-le (l * 2) (drop (q + 1) text) (stands .0)) (stands .1)
+
+      row-is : rowAt text at l r ≡ r ∷ unhex digits
+      unfolding digits
+      row-is = let e : at + 5 + length (decimal r) ≡ q + 1 = omega arith in ap (λ k. r ∷ unhex (take (l * 2) (drop k text))) e
+
+      values-are : drop (q + 1) text ≡ hex (unhex digits) ++ drop (q + 1 + l * 2) text
+      unfolding digits
+      values-are = sym (take-append-drop (l * 2) (drop (q + 1) text)) ∙ ap₂ _++_ (sym (read .0)) (drop-drop (l * 2) (q + 1) text)
+
+      pub row-passes : drop at text ≡ rowWord ++ drop (at + 3) text → drop q text ≡ 9 ∷ drop (q + 1) text
+          → drop (q + 1 + l * 2) text ≡ 10 ∷ drop (q + 1 + l * 2 + 1) text → RowAt text at l r
+      row-passes word parted ended =
+          let number = field .right some in
+          let next : q + 1 + l * 2 + 1 ≡ at + 6 + length (decimal r) + l * 2 = omega arith in
+          let there : at + 3 + 1 + length (decimal r) ≡ q = omega arith in
+          let later = drop (at + 6 + length (decimal r) + l * 2) text in
+          let line : drop q text ≡ 9 ∷ (hex (unhex digits) ++ 10 ∷ later) = parted ∙ ap (9 ∷_) (values-are ∙ ap (hex (unhex digits) ++_) (ended ∙ ap (λ k. 10 ∷ drop k text) next)) in
+          let stood : drop at text ≡ rowLine (r ∷ unhex digits) ++ later =
+          word ∙ ap (rowWord ++_) (number .2 ∙ ap (λ x. 9 ∷ (decimal r ++ x)) (ap (λ k. drop k text) there ∙ line) ∙ ap (9 ∷_) (sym (pieces (decimal r) (hex (unhex digits)) later))) in
+          record {
+            right = λ more. subst (λ row. Row l row × (drop at text ≡ rowLine row ++ later)) (sym row-is)
+                (record { long = omega (arith, read .2); bytes = (omega (arith, number .1), read .1); nonzero = some }, stood);
+            wrong = λ e. absurd (omega arith);
+          }

@@ -37,6 +37,11 @@ pub record ByteAt (text : List ℕ) (at b : ℕ) (r : Bool) : Type 0 where
   pub yes : r ≡ true → (at < length text) × (drop at text ≡ b ∷ drop (at + 1) text)
   pub no : r ≡ false → (rest : List ℕ) → drop at text ≡ b ∷ rest → ⊥
 
+-- r says whether this word stands there
+pub record WordAt (text : List ℕ) (at : ℕ) (word : List ℕ) (r : Bool) : Type 0 where
+  pub yes : r ≡ true → (at + length word ≤ length text) × (drop at text ≡ word ++ drop (at + length word) text)
+  pub no : r ≡ false → (rest : List ℕ) → drop at text ≡ word ++ rest → ⊥
+
 -- r is the number from least to most that stands there behind a tab
 pub record FieldAt (text : List ℕ) (at least most r : ℕ) : Type 0 where
   pub right : 0 < r → (least ≤ r) × (r ≤ most) × (drop at text ≡ tab ∷ (decimal r ++ drop (at + 1 + length (decimal r)) text))

@@ -7,6 +7,7 @@ ghost use Rattle.reader.specs.Taking.{FieldAt, HeadRead, RowAt};
 use crate::taking::hex_at;
 use crate::taking::is_at;
 use crate::taking::read_number;
+use crate::taking::word_at;
 
 // The number of a field, a tab and digits, that stands at a place and is in range; 0 where there is none.
 fn read_field(text: &[u8], at: usize, least: usize, most: usize) -> usize
@@ -43,16 +44,7 @@ const NO_HEAD: Head = Head {
 pub fn read_head(text: &[u8]) -> Head
     ensures { λ r. ⌜ HeadRead (now (text .entry)) (r .threshold) (r .rows) (r .values) ⌝ }
 {
-    if !is_at(text, 0, b's') {
-        return NO_HEAD;
-    }
-    if !is_at(text, 1, b'e') {
-        return NO_HEAD;
-    }
-    if !is_at(text, 2, b'a') {
-        return NO_HEAD;
-    }
-    if !is_at(text, 3, b'l') {
+    if !word_at(text, 0, b"seal") {
         return NO_HEAD;
     }
     let t = read_field(text, 4, 2, sharing::MAX_SHARES);
@@ -84,23 +76,11 @@ pub fn read_row(text: &[u8], at: usize, l: usize) -> usize
     requires { ⌜ (at ≤ length (now text)) × (l ≤ maxSecret) ⌝ }
     ensures { λ r. ⌜ RowAt (now (text .entry)) at l r ⌝ }
 {
-    if !is_at(text, at, b'r') {
+    if !word_at(text, at, b"row") {
         return 0;
     }
-    if !is_at(text, at + 1, b'o') {
-        return 0;
-    }
-    if !is_at(text, at + 2, b'w') {
-        return 0;
-    }
-    if !is_at(text, at + 3, sheets::TAB) {
-        return 0;
-    }
-    let id = read_number(text, at + 4);
+    let id = read_field(text, at + 3, 1, sharing::MAX_SHARES);
     if id == 0 {
-        return 0;
-    }
-    if sharing::MAX_SHARES < id {
         return 0;
     }
     let parted = at + 4 + sheets::decimal_length(id);

@@ -6,7 +6,7 @@ ghost use lib.Dec.{eqb};
 ghost use lib.ListN.{length};
 ghost use Rattle.sheets.specs.Text.{decimal};
 ghost use Rattle.sheets.specs.ReadAs.{IsHexDigit};
-ghost use Rattle.reader.specs.Taking.{NumberAt, HexAt, ByteAt};
+ghost use Rattle.reader.specs.Taking.{NumberAt, HexAt, ByteAt, WordAt};
 
 // The numbers of a sheet have at most so many digits.
 const MOST_DIGITS: usize = 5;
@@ -83,4 +83,24 @@ pub fn is_at(text: &[u8], at: usize, b: u8) -> bool
         return false;
     }
     text[at] == b
+}
+
+// Whether this word stands at a place.
+pub fn word_at(text: &[u8], at: usize, word: &[u8]) -> bool
+    requires { ⌜ at ≤ length (now text) ⌝ }
+    ensures { λ r. ⌜ WordAt (now (text .entry)) at (now (word .entry)) r ⌝ }
+{
+    if text.len() - at < word.len() {
+        return false;
+    }
+    let mut k = 0;
+    let mut i = at;
+    while k < word.len() {
+        if text[i] != word[k] {
+            return false;
+        }
+        k += 1;
+        i += 1;
+    }
+    true
 }

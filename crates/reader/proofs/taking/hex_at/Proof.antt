@@ -1,54 +1,71 @@
+-- `hex_at` meets its contract: after k turns it is told whether the first k characters are digits.
+-- Assumes nothing.
+use mathlib.Core.Path.{_≡_, sym, ap, _∙_, subst}
+use Prim.Native.Nat.{_+_, _-_, _<_, _≤_}
+use native.Mathlib.Omega.{arith}
+use lib.ListN.{length, getD, drop, length-drop}
+use lib.Seq.{getD-drop}
+use Rattle.reader.proofs.DigitsRead.{no-yes}
+use Rattle.reader.proofs.HexTests.{Told, told-none, told-more}
 use Rattle.reader.proofs.taking.hex_at.Statement.{statement}
 use Rattle.reader.proofs.taking.hex_at.Tie as tie
-use Rattle.reader.proofs.taking.hex_at.Reads as reads
-use Rattle.reader.proofs.taking.hex_at.Lts as lts
-use Rattle.reader.proofs.taking.is_hex_digit.Reads as is-hex-digit-reads
 
 abbrev Inv-loop : tie.InvT-loop
-Inv-loop text at count all₀ k₀ i₀ all k i = ?
+Inv-loop text at count all₀ k₀ i₀ all k i = (i ≡ at + k) × (k ≤ count) × Told (drop at text) k all
 
 abbrev μ-loop : tie.MeasureT-loop
-μ-loop text at count all₀ k₀ i₀ all k i = ?
+μ-loop text at count all₀ k₀ i₀ all k i = count - k
 
--- src/taking.rt:64:8
 sub-if1 : tie.Need-sub-if1 Inv-loop μ-loop
-sub-if1 c = ?
+sub-if1 c = c .before .pre
 
--- src/taking.rt:65:9
 returns : tie.Need-returns Inv-loop μ-loop
-returns c = ?
+returns c =
+    let a = c .before .before .args in
+    record { yes = no-yes; no = λ e h. omega (arith, c .if1 .taken, h .0, length-drop (a .at) (a .text .now)) }
 
--- src/taking.rt:70:5
 loop-holds : tie.Need-loop-holds Inv-loop μ-loop
-loop-holds c = ?
+loop-holds c = let a = c .before .before .args in (omega arith, omega arith, told-none (drop (a .at) (a .text .now)))
 
--- src/taking.rt:71:34
 shared-slice-read-is-hex-digit : tie.Need-shared-slice-read-is-hex-digit Inv-loop μ-loop
-shared-slice-read-is-hex-digit c = ?
+shared-slice-read-is-hex-digit c = omega (arith, c .before .before .before .if1 .left, c .before .before .before .before .before .pre)
 
--- src/taking.rt:71:21
 is-hex-digit-requires : tie.Need-is-hex-digit-requires Inv-loop μ-loop
-is-hex-digit-requires c κs = ?
+is-hex-digit-requires c κs = tt
 
--- src/taking.rt:72:9
 add-k : tie.Need-add-k Inv-loop μ-loop
-add-k c = ?
+add-k c = omega arith
 
--- src/taking.rt:73:9
 add-i : tie.Need-add-i Inv-loop μ-loop
-add-i c = ?
+add-i c = omega arith
 
--- src/taking.rt:70:5
 loop-less : tie.Need-loop-less Inv-loop μ-loop
-loop-less c = ?
+loop-less c = omega arith
 
--- src/taking.rt:70:5
 loop-again : tie.Need-loop-again Inv-loop μ-loop
-loop-again c = ?
+loop-again c =
+    let l = c .before .before .before .loop in
+    let first = c .before .before .before .before in
+    let a = first .before .before .args in
+    let char = getD-drop (a .at) (a .text .now) (l .k) 0 ∙ ap (λ j. getD (a .text .now) j 0) (sym (l .inv .0)) in
+    let digit = c .is-hex-digit in (
+      omega (arith, l .inv .0),
+      omega arith,
+      told-more _ (digit .result) (l .inv .2) (omega (arith, c .before .before .loop-test .taken, first .if1 .left, length-drop (a .at) (a .text .now))) (sym char)
+          (digit .ensures .0) (digit .ensures .1),
+    )
 
--- src/taking.rt:60:1
 returns-2 : tie.Need-returns-2 Inv-loop μ-loop
-returns-2 c = ?
+returns-2 c =
+    let l = c .before .loop in
+    let first = c .before .before in
+    let a = first .before .before .args in
+    let all : l .k ≡ a .count = omega arith in
+    let told = subst (λ n. Told (drop (a .at) (a .text .now)) n (l .all)) all (l .inv .2) in
+    record {
+      yes = λ e. (omega (arith, first .if1 .left, length-drop (a .at) (a .text .now)), told .yes e);
+      no = λ e h. told .no e (h .1);
+    }
 
 pub hex-at-spec : {M : Type 1} → statement M
 hex-at-spec =

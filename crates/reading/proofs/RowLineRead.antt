@@ -9,14 +9,13 @@ use lib.ListN.{length, getD, take, drop, length-append, length-drop, take-append
 use lib.Seq.{drop-drop, drop-at, take-at, length-take-le}
 use borrow.Author.Tests.{lt-ltb, le-ltb}
 use Rattle.shamir.specs.Lists.{All, Below}
-use Rattle.shamir.proofs.Lists.{all-drop}
+use Rattle.shamir.proofs.Lists.{all-drop, all-in}
 use Rattle.sheets.specs.Text.{decimal, hexDigit, hex}
 use Rattle.sheets.specs.Sheet.{rowLine}
 use Rattle.sheets.specs.ReadAs.{unhexDigit, unhex}
 use Rattle.sheets.specs.ReadAs.{IsHexDigit}
 use Rattle.reading.specs.Taking.{HexStands, Row, RowAt, rowAt}
 use Rattle.sheets.proofs.Hex.{length-hex, hex-digits}
-use Rattle.sharing.proofs.Places.{all-in}
 
 -- what stands behind a piece
 pub behind : (text : List ℕ) (n m : ℕ) (ds rest : List ℕ) → drop n text ≡ ds ++ rest → m ≡ n + length ds → drop m text ≡ rest

@@ -9,8 +9,7 @@ use lib.ListN.{length, getD, take, drop, length-drop}
 use lib.Seq.{take-suc, getD-drop, getD-take, length-take-le}
 use borrow.Author.Tests.{not-true, not-false}
 use Rattle.shamir.specs.Lists.{All}
-use Rattle.shamir.proofs.Lists.{all-append}
-use Rattle.sharing.proofs.Places.{all-in}
+use Rattle.shamir.proofs.Lists.{all-append, all-in}
 use Rattle.sheets.specs.ReadAs.{IsHexDigit}
 use Rattle.reading.proofs.DigitsRead.{yes-no, no-yes}
 use Rattle.reading.proofs.hex_at.Statement.{statement}

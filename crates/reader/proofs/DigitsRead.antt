@@ -13,9 +13,8 @@ use lib.ListN.{length, getD, take, drop, length-append, take-append-drop, List·
 use lib.Seq.{take-suc, take-at, drop-drop, length-take-le}
 use borrow.Author.Tests.{eqb-true, eqb-false}
 use Rattle.shamir.specs.Lists.{All}
-use Rattle.shamir.proofs.Lists.{all-append}
+use Rattle.shamir.proofs.Lists.{all-append, all-in}
 use Rattle.sheets.specs.Text.{decimal}
-use Rattle.sharing.proofs.Places.{all-in}
 use Rattle.sheets.specs.ReadAs.{IsDigit}
 use Rattle.reader.specs.Taking.{NumberAt}
 use Rattle.sheets.specs.ReadAs.{valueFrom, value}

@@ -18,7 +18,7 @@ use Rattle.reading.specs.Lines.{Row}
 use Rattle.reader.specs.Taking.{HexStands, FieldAt, RowAt, rowAt}
 use Rattle.sheets.proofs.Hex.{length-hex, hex-digits}
 use Rattle.reader.proofs.WordRead.{behind}
-use Rattle.sharing.proofs.Places.{all-in}
+use Rattle.shamir.proofs.Lists.{all-in}
 
 pieces : (d h rest : List ℕ) → (d ++ 9 ∷ (h ++ (10 ∷ []))) ++ rest ≡ d ++ 9 ∷ (h ++ 10 ∷ rest)
 pieces d h rest = append-assoc d (9 ∷ (h ++ (10 ∷ []))) rest ∙ ap (λ x. d ++ 9 ∷ x) (append-assoc h (10 ∷ []) rest)

@@ -7,7 +7,7 @@ use mathlib.Core.Bool.{Bool, true, false}
 use Prim.Native.Nat.{ℕ, _+_, _*_, _<_, _≤_}
 use lib.ListN.{length, take, drop}
 use Rattle.shamir.specs.Lists.{All}
-use Rattle.sharing.specs.Demands.{laid}
+use Rattle.rows.specs.Storage.{laid}
 use Rattle.sheets.specs.ReadAs.{IsDigit, IsHexDigit, unhex}
 use Rattle.sheets.specs.Text.{tab, decimal}
 use Rattle.sheets.specs.Sheet.{headLine, rowLine, rowLines}

@@ -7,8 +7,8 @@ use native.Mathlib.Omega.{arith}
 use lib.ListN.{length}
 use Rattle.shamir.specs.Lists.{All, Below}
 use Rattle.shamir.proofs.Lists.{all-append}
+use Rattle.rows.specs.Storage.{laid}
 use Rattle.rows.specs.Lengths.{four, fours, lengthsOf}
-use Rattle.sharing.specs.Demands.{laid}
 use Rattle.sheets.proofs.LengthBytes.{lengthBytes}
 
 pub below-laid : (n : ℕ) (rows : List (List ℕ)) → All (Below n) rows → Below n (laid rows)

@@ -13,17 +13,16 @@ use Rattle.answer.specs.Outcome.{Outcome, done}
 use Rattle.shamir.specs.Lists.{All, Below, Fresh, Distinct}
 use Rattle.shamir.proofs.Lists.{all-map, all-both}
 use Rattle.rows.specs.Search.{sum, allAre, firstRepeated, placeOf, within}
-use Rattle.rows.specs.Storage.{cut, identifiers}
-use Rattle.rows.proofs.Search.{place-fresh, repeated-distinct}
+use Rattle.rows.specs.Storage.{cut, laid, identifiers}
+use Rattle.rows.proofs.Search.{place-fresh, repeated-distinct, not-within}
+use Rattle.rows.proofs.Laid.{cut-laid, sum-laid}
 use Rattle.sharing.specs.Limits.{maxSecret, maxShares}
 use Rattle.sharing.specs.RowSet.{secretLength, judged, judgedRows}
-use Rattle.sharing.specs.Demands.{laid}
 use Rattle.sharing.proofs.RowSet.{by-lengths}
 use Rattle.sheets.specs.Sheet.{sheet, sheetText, judgedThreshold, sheetAnswer}
 use Rattle.reading.specs.Unsheet.{SheetOf}
 use Rattle.reading.specs.Lines.{Head, Row, Rows}
 use Rattle.sheets.proofs.LengthBytes.{lengthBytes}
-use Rattle.sharing.proofs.Laid.{cut-laid, sum-laid, not-within}
 use Rattle.reading.proofs.LaidRows.{below-laid, length-length-bytes, lengths-of, below-length-bytes}
 
 module _ (l : ℕ) where

@@ -6,15 +6,14 @@ use mathlib.Core.Logic.{⊎-elim}
 use Prim.Native.Nat.{ℕ}
 use native.Mathlib.Omega.{arith}
 use lib.ListN.{length}
-use Rattle.rows.specs.Storage.{cut}
+use Rattle.rows.specs.Storage.{cut, laid}
 use Rattle.rows.specs.Lengths.{lengthsOf}
+use Rattle.rows.proofs.Laid.{laid-cut}
 use Rattle.sharing.specs.RowSet.{secretLength}
-use Rattle.sharing.specs.Demands.{laid}
 use Rattle.sheets.specs.Sheet.{headLine, rowLines, sheet}
 use Rattle.reading.specs.Reading.{IsSheet}
 use Rattle.reading.specs.Unsheet.{Read, sheetOf, unsheet, SheetOf}
 use Rattle.reading.specs.Lines.{Head, Rows}
-use Rattle.sheets.proofs.Cut.{laid-cut}
 use Rattle.sheets.proofs.Accepted.{accepted-sheet, rows-fill}
 use Rattle.reading.proofs.RowsWritten.{rows-sheet}
 use Rattle.reading.proofs.RowsAccepted.{sheet-rows}

@@ -7,7 +7,7 @@ use Prim.Native.Nat.{ℕ}
 use lib.Dec.{ltb}
 use lib.ListN.{length, drop}
 use Rattle.answer.specs.Outcome.{Outcome, done, refused, refuse}
-use Rattle.sharing.specs.Demands.{laid}
+use Rattle.rows.specs.Storage.{laid}
 use Rattle.rows.specs.Lengths.{fourBytes}
 use Rattle.reading.specs.Unsheet.{Read, sheetOf, notAt, unsheet}
 

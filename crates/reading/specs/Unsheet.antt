@@ -8,11 +8,10 @@ use Prim.Native.Nat.{ℕ, zero, suc, _+_, _-_}
 use lib.Dec.{eqb, ltb}
 use lib.ListN.{length, getD}
 use Rattle.rows.specs.Search.{placeOf, within}
-use Rattle.rows.specs.Storage.{cut, identifiers}
+use Rattle.rows.specs.Storage.{cut, laid, identifiers}
 use Rattle.rows.specs.Lengths.{lengthsOf}
 use Rattle.sharing.specs.Limits.{maxShares, maxSecret}
 use Rattle.sharing.specs.RowSet.{secretLength}
-use Rattle.sharing.specs.Demands.{laid}
 use Rattle.sheets.specs.ReadAs.{value, unhex}
 use Rattle.sheets.specs.Text.{tab, lineFeed}
 use Rattle.sheets.specs.Sheet.{headLine, rowLine, sheet}

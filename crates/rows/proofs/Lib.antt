@@ -1,5 +1,6 @@
 pub mod Lengths
 pub mod Storage
+pub mod Laid
 pub mod Search
 pub mod Pigeonhole
 pub mod Marks

@@ -11,7 +11,7 @@ use lib.ListN.{length, getD, drop, length-drop, drop-of-length-le}
 use lib.Seq.{drop-cons}
 use borrow.Author.Tests.{eq-eqb, ne-eqb, eqb-false, lt-ltb, le-ltb, ltb-true, ltb-false}
 use Rattle.shamir.specs.Lists.{Fresh, Distinct}
-use Rattle.rows.specs.Search.{placeOf, firstRepeated, firstRepeating}
+use Rattle.rows.specs.Search.{placeOf, firstRepeated, firstRepeating, within}
 
 -- ---- one place further
 
@@ -79,6 +79,9 @@ repeated-distinct [] d = refl
 repeated-distinct (a ∷ xs) d =
     ap (λ b. cond b 0 (suc (firstRepeated xs))) (le-ltb (placeOf a xs) (length xs) (omega (arith, place-fresh a xs (d .0))))
     ∙ ap suc (repeated-distinct xs (d .1))
+
+pub not-within : (place : ℕ) (xs : List ℕ) → place ≡ length xs → within place xs ≡ false
+not-within place xs e = le-ltb place (length xs) (omega arith)
 
 -- the place that repeats is in the list where the repeated one is
 pub repeating-within : (ids : List ℕ) → firstRepeated ids < length ids → firstRepeating ids < length ids

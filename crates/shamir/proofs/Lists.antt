@@ -26,6 +26,11 @@ module _ {A : Type 0} (P : A → Type 0) where
   all-at d hd (x ∷ xs) zero h = h .0
   all-at d hd (x ∷ xs) (suc i) h = all-at d hd xs i (h .1)
 
+pub all-in : (P : ℕ → Type 0) (xs : List ℕ) (i : ℕ) → i < length xs → All P xs → P (getD xs i 0)
+all-in P [] i h a = absurd (omega arith)
+all-in P (x ∷ xs) zero h a = a .0
+all-in P (x ∷ xs) (suc i) h a = all-in P xs i (omega arith) (a .1)
+
 pub all-map : {A B : Type 0} (P : A → Type 0) (Q : B → Type 0) (f : A → B) → ((x : A) → P x → Q (f x)) → (xs : List A) → All P xs → All Q (map f xs)
 all-map P Q f s [] h = tt
 all-map P Q f s (x ∷ xs) h = (s x (h .0), all-map P Q f s xs (h .1))

@@ -5,9 +5,3 @@ pub mod SplitRows
 pub mod SplitBytes
 pub mod RowSet
 pub mod CombineAccepted
-pub mod Laid
-pub mod Places
-pub mod Recovery
-pub mod Hiding
-pub mod Promises
-pub mod Table

@@ -3,6 +3,3 @@ pub mod Split
 pub mod RowSet
 pub mod Combine
 pub mod ByteLengths
-pub mod Demands
-pub mod Promises
-pub mod Table

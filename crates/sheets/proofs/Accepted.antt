@@ -2,13 +2,15 @@
 -- Assumes nothing.
 use mathlib.Core.Path.{_≡_, ap, _∙_}
 use mathlib.Core.List.{List}
-use Prim.Native.Nat.{ℕ, _+_, _/_, _%_, _≤_}
+use Prim.Native.Nat.{ℕ, zero, suc, _+_, _/_, _%_, _<_, _≤_}
 use native.Mathlib.Omega.{arith}
 use lib.Dec.{ltb}
-use lib.ListN.{length}
+use lib.ListN.{length, drop, replicate, length-drop}
+use lib.Seq.{length-take-le}
 use borrow.Author.Tests.{ltb-false}
 use Rattle.answer.specs.Outcome.{done}
 use Rattle.shamir.specs.Lists.{All, Below}
+use Rattle.shamir.proofs.Lists.{all-take, all-drop}
 use Rattle.rows.specs.Search.{sum}
 use Rattle.rows.specs.Storage.{cut}
 use Rattle.rows.specs.Lengths.{lengthsOf}
@@ -19,7 +21,6 @@ use Rattle.sharing.proofs.Chains.{passed, through}
 use Rattle.sharing.proofs.RowSet.{readable, AcceptedRows, accepted-bytes, byte-lengths-chain}
 use Rattle.sheets.specs.Sheet.{sheetAnswer}
 use Rattle.sheets.proofs.Lines.{Writable}
-use Rattle.sheets.proofs.Cut.{cut-writable}
 
 pub record AcceptedSheet (t : ℕ) (s bytes : List ℕ) : Type 0 where
   pub whole : length bytes % 4 ≡ 0
@@ -44,6 +45,13 @@ module _ (t : ℕ) (s bytes : List ℕ) (room m : ℕ) where
       }
 
 -- ---- its rows
+
+cut-writable : (m w : ℕ) (s : List ℕ) → 0 < w → sum (replicate m w) ≤ length s → Below 256 s → All Writable (cut (replicate m w) s)
+cut-writable zero w s p h b = tt
+cut-writable (suc m) w s p h b = (
+  record { some = omega (arith, length-take-le w s (omega arith)); bytes = all-take (_< 256) w s b },
+  cut-writable m w (drop w s) p (simp length-drop (omega arith)) (all-drop (_< 256) w s b),
+)
 
 module _ {enough m l : ℕ} {s ns : List ℕ} (a : AcceptedRows enough s ns m l) where
   pub rows-fill : sum ns ≡ length s

@@ -3,7 +3,6 @@ pub mod DecimalValue
 pub mod Hex
 pub mod Fields
 pub mod Lines
-pub mod Cut
 pub mod LengthBytes
 pub mod Accepted
 pub mod TextLength

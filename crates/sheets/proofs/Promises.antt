@@ -4,13 +4,13 @@ use mathlib.Core.Path.{refl, sym, _∙_}
 use Rattle.answer.proofs.Meaning.{told}
 use Rattle.rows.specs.Storage.{cut}
 use Rattle.rows.specs.Lengths.{lengthsOf}
+use Rattle.rows.proofs.Laid.{cut-told}
 use Rattle.sharing.specs.RowSet.{secretLength, judged}
 use Rattle.sheets.specs.Text.{decimal}
 use Rattle.sheets.specs.Sheet.{sheet, sheetAnswer, sheetBytes}
 use Rattle.sheets.specs.Promises.{Determined, Independent, ToldApart, DecimalRight, CaseG}
 use Rattle.sheets.proofs.DecimalValue.{value-decimal, decimal-first}
 use Rattle.sheets.proofs.Lines.{head-told, rows-told}
-use Rattle.sheets.proofs.Cut.{cut-told}
 use Rattle.sheets.proofs.LengthBytes.{lengths-told}
 use Rattle.sheets.proofs.Accepted.{accepted-sheet, rows-fill, rows-writable}
 use Rattle.sheets.proofs.TextLength.{length-same}

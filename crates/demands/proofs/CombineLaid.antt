@@ -1,42 +1,28 @@
 -- Rows with different identifiers, none of them 0, that are laid together with their lengths: combine accepts them.
 -- Assumes nothing.
-use mathlib.Core.Path.{_≡_, refl, sym, ap, ap₂, _∙_}
+use mathlib.Core.Path.{_≡_, refl, ap, ap₂, _∙_}
 use mathlib.Core.Bool.{true, false, _&&_}
 use mathlib.Core.List.{List, [], _∷_, _++_, map}
 use Prim.Native.Nat.{ℕ, _+_, _-_, _<_, _≤_}
 use native.Mathlib.Omega.{arith}
 use lib.Dec.{eqb, ltb}
-use lib.ListN.{length, drop, getD, length-map, length-append}
-use lib.Seq.{take-at, drop-at}
+use lib.ListN.{length, drop, getD, length-map}
 use borrow.Author.Tests.{le-ltb, eq-eqb}
 use Rattle.answer.specs.Outcome.{done}
 use Rattle.shamir.specs.Lists.{All, Fresh, Distinct}
 use Rattle.shamir.specs.Rows.{combined}
 use Rattle.gf256.specs.Field256.{gf256}
 use Rattle.rows.specs.Search.{sum, allAre, placeOf, firstRepeated, within}
-use Rattle.rows.specs.Storage.{cut, identifiers, values}
-use Rattle.rows.proofs.Search.{place-fresh, repeated-distinct}
+use Rattle.rows.specs.Storage.{cut, laid, identifiers, values}
+use Rattle.rows.proofs.Search.{place-fresh, repeated-distinct, not-within}
+use Rattle.rows.proofs.Laid.{cut-laid, sum-laid}
 use Rattle.sharing.specs.Limits.{maxSecret}
 use Rattle.sharing.specs.RowSet.{judged}
 use Rattle.sharing.specs.Combine.{combineOutcome, combineAnswer, combineBytes}
-use Rattle.sharing.specs.Demands.{laid}
-
-pub cut-laid : (rows : List (List ℕ)) → cut (map length rows) (laid rows) ≡ rows
-cut-laid [] = refl
-cut-laid (r ∷ rows) =
-    ap₂ (λ a b. a ∷ cut (map length rows) b) (take-at r (laid rows) (length r) refl) (drop-at r (laid rows) (length r) refl)
-    ∙ ap (r ∷_) (cut-laid rows)
-
-pub sum-laid : (rows : List (List ℕ)) → sum (map length rows) ≡ length (laid rows)
-sum-laid [] = refl
-sum-laid (r ∷ rows) = ap (length r +_) (sum-laid rows) ∙ sym (length-append r (laid rows))
 
 all-long : (w : ℕ) (rows : List (List ℕ)) → All (λ r. length r ≡ w) rows → allAre w (map length rows) ≡ true
 all-long w [] h = refl
 all-long w (r ∷ rows) h = ap₂ _&&_ (eq-eqb (length r) w (h .0)) (all-long w rows (h .1))
-
-pub not-within : (place : ℕ) (xs : List ℕ) → place ≡ length xs → within place xs ≡ false
-not-within place xs e = le-ltb place (length xs) (omega arith)
 
 -- the rows with identifiers xs, whose values f gives, l to a row
 module _ (l : ℕ) (f : ℕ → List ℕ) (long : (x : ℕ) → length (f x) ≡ l) where

@@ -12,13 +12,13 @@ use Rattle.shamir.proofs.Rows.{length-row}
 use Rattle.shamir.proofs.Theorems.{rowRecovery}
 use Rattle.gf256.specs.Field256.{gf256}
 use Rattle.gf256.proofs.Field256.{laws256}
 use Rattle.sharing.specs.Split.{splitRoom}
-use Rattle.sharing.specs.Demands as demands
-use Rattle.sharing.specs.Demands.{shown, Recovery}
+use Rattle.demands.specs.Demands as demands
+use Rattle.demands.specs.Demands.{shown, Recovery}
 use Rattle.sharing.proofs.SplitAccepted.{Accepted, accepted}
-use Rattle.sharing.proofs.SplitBytes.{row-of-split}
-use Rattle.sharing.proofs.Laid.{laid-answer, laid-bytes}
-use Rattle.sharing.proofs.Places.{idsAt, ids-bytes, ids-nonzero, ids-distinct}
+use Rattle.demands.proofs.SplitRow.{row-of-split}
+use Rattle.demands.proofs.CombineLaid.{laid-answer, laid-bytes}
+use Rattle.demands.proofs.Places.{idsAt, ids-bytes, ids-nonzero, ids-distinct}
 
 module _ (t n : ℕ) (secret ids coefficients out : List ℕ) (a : demands.Accepted t n secret ids coefficients out) where
   pub facts : Accepted t n (length secret) ids (length coefficients) (length out) (splitRoom n (length secret))

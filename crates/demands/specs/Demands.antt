@@ -1,24 +1,20 @@
 -- What holders may rely on: enough rows give the secret back, and fewer say nothing of it. All of it is said of the definitions
--- in Split and Combine, which the code is proved to meet.
+-- in Split and Combine of `sharing`, which the code is proved to meet.
 -- Assumes nothing.
 use mathlib.Core.Path.{_≡_}
-use mathlib.Core.List.{List, [], _∷_, _++_, map}
+use mathlib.Core.List.{List, _++_, map}
 use Prim.Native.Nat.{ℕ, _+_, _*_, _-_, _≤_}
 use lib.ListN.{length, take, drop}
 use Rattle.answer.specs.Outcome.{done}
 use Rattle.shamir.specs.Lists.{Below, Distinct}
 use Rattle.shamir.specs.Count.{Unique}
+use Rattle.rows.specs.Storage.{laid}
 use Rattle.sharing.specs.Split.{splitRoom, splitOutcome, splitBytes}
 use Rattle.sharing.specs.Combine.{combineAnswer, combineBytes}
 
 -- row p of what a split of l bytes has written
 abbrev pub rowAt : ℕ → List ℕ → ℕ → List ℕ
 rowAt l bytes p = take (l + 1) (drop (p * (l + 1)) bytes)
-
--- rows laid together
-abbrev pub laid : List (List ℕ) → List ℕ
-laid [] = []
-laid (row ∷ rows) = row ++ laid rows
 
 -- A split that is accepted: threshold t, limit n, this secret, these identifiers and coefficients, and an output that comes
 -- with these bytes. All are bytes, and the identifiers that are used are different.

@@ -1,17 +1,23 @@
--- Storage cut into rows: the rows tell the storage and their lengths, where the lengths add up to that of the storage.
+-- Rows laid together and storage cut into rows: each undoes the other, where the lengths add up to that of the storage.
 -- Assumes nothing.
 use mathlib.Core.Path.{_≡_, refl, sym, ap, ap₂, _∙_}
 use mathlib.Core.List.{List, [], _∷_, _++_, map}
-use Prim.Native.Nat.{ℕ, zero, suc, _+_, _<_, _≤_}
+use Prim.Native.Nat.{ℕ, _+_, _≤_}
 use native.Mathlib.Omega.{arith}
-use lib.ListN.{length, take, drop, replicate, length-drop, take-append-drop}
-use lib.Seq.{length-take-le}
-use Rattle.shamir.specs.Lists.{All, Below}
-use Rattle.shamir.proofs.Lists.{all-take, all-drop}
+use lib.ListN.{length, take, drop, length-append, length-drop, take-append-drop}
+use lib.Seq.{take-at, drop-at, length-take-le}
 use Rattle.rows.specs.Search.{sum}
-use Rattle.rows.specs.Storage.{cut}
-use Rattle.sharing.specs.Demands.{laid}
-use Rattle.sheets.proofs.Lines.{Writable}
+use Rattle.rows.specs.Storage.{cut, laid}
+
+pub sum-laid : (rows : List (List ℕ)) → sum (map length rows) ≡ length (laid rows)
+sum-laid [] = refl
+sum-laid (r ∷ rows) = ap (length r +_) (sum-laid rows) ∙ sym (length-append r (laid rows))
+
+pub cut-laid : (rows : List (List ℕ)) → cut (map length rows) (laid rows) ≡ rows
+cut-laid [] = refl
+cut-laid (r ∷ rows) =
+    ap₂ (λ a b. a ∷ cut (map length rows) b) (take-at r (laid rows) (length r) refl) (drop-at r (laid rows) (length r) refl)
+    ∙ ap (r ∷_) (cut-laid rows)
 
 pub laid-cut : (ns s : List ℕ) → length s ≤ sum ns → laid (cut ns s) ≡ s
 laid-cut [] [] h = refl
@@ -27,11 +33,4 @@ pub cut-told : (ns ms s z : List ℕ) → sum ns ≡ length s → sum ms ≡ len
 cut-told ns ms s z hs hz e = (
   sym (lengths-cut ns s (omega arith)) ∙ ap (map length) e ∙ lengths-cut ms z (omega arith),
   sym (laid-cut ns s (omega arith)) ∙ ap laid e ∙ laid-cut ms z (omega arith),
-)
-
-pub cut-writable : (m w : ℕ) (s : List ℕ) → 0 < w → sum (replicate m w) ≤ length s → Below 256 s → All Writable (cut (replicate m w) s)
-cut-writable zero w s p h b = tt
-cut-writable (suc m) w s p h b = (
-  record { some = omega (arith, length-take-le w s (omega arith)); bytes = all-take (_< 256) w s b },
-  cut-writable m w (drop w s) p (simp length-drop (omega arith)) (all-drop (_< 256) w s b),
 )

@@ -5,10 +5,10 @@ use mathlib.Core.List.{zipWith}
 use Rattle.poly2.specs.Poly2.{mulMod, rem, reduce, clmul}
 use Rattle.algebra.specs.Field.{power}
 use Rattle.gf256.specs.Field256.{mul256, inv256}
 use Rattle.sharing.specs.Split.{splitOutcome, splitBytes}
 use Rattle.sharing.specs.RowSet.{judged}
 use Rattle.sharing.specs.Combine.{combineOutcome, combineBytes}
-use Rattle.sharing.specs.Table.{TableHolds}
+use Rattle.demands.specs.Table.{TableHolds}
 
 pub table-holds : TableHolds
 unfolding splitOutcome splitBytes judged combineOutcome combineBytes zipWith mul256 inv256 power mulMod rem reduce clmul

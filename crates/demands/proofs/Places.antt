@@ -8,16 +8,11 @@ use native.Mathlib.Omega.{arith}
 use lib.Dec.{lit<}
 use lib.ListN.{length, take, getD}
 use lib.Seq.{getD-take, length-take-le}
-use Rattle.shamir.specs.Lists.{All, Below, Fresh, Distinct}
-use Rattle.shamir.proofs.Lists.{all-at, all-map, all-both}
+use Rattle.shamir.specs.Lists.{Below, Fresh, Distinct}
+use Rattle.shamir.proofs.Lists.{all-at, all-in, all-map, all-both}
 
 abbrev pub idsAt : List ℕ → List ℕ → List ℕ
 idsAt ids places = map (λ p. getD ids p 0) places
-
-pub all-in : (P : ℕ → Type 0) (xs : List ℕ) (i : ℕ) → i < length xs → All P xs → P (getD xs i 0)
-all-in P [] i h a = absurd (omega arith)
-all-in P (x ∷ xs) zero h a = a .0
-all-in P (x ∷ xs) (suc i) h a = all-in P xs i (omega arith) (a .1)
 
 apart : (xs : List ℕ) (i j : ℕ) → i < j → j < length xs → Distinct xs → getD xs i 0 ≡ getD xs j 0 → ⊥
 apart [] i j l h d e = absurd (omega arith)

@@ -14,9 +14,9 @@ use Rattle.shamir.proofs.Rows.{length-row}
 use Rattle.shamir.proofs.Theorems.{rowHiding}
 use Rattle.gf256.specs.Field256.{gf256}
 use Rattle.gf256.proofs.Field256.{laws256}
-use Rattle.sharing.specs.Demands.{Accepted, Hiding}
-use Rattle.sharing.proofs.Recovery.{facts, shown-is, places-are}
-use Rattle.sharing.proofs.Places.{idsAt, ids-nonzero}
+use Rattle.demands.specs.Demands.{Accepted, Hiding}
+use Rattle.demands.proofs.Recovery.{facts, shown-is, places-are}
+use Rattle.demands.proofs.Places.{idsAt, ids-nonzero}
 
 -- rows with the same identifiers are the same where their values are
 module _ (f g : ℕ → List ℕ) where

@@ -1,2 +1,5 @@
 pub mod DigitsRead
 pub mod RowLineRead
+pub mod Decoded
+pub mod RowDecoded
+pub mod RowsDecoded

@@ -4,3 +4,6 @@ pub mod WordRead
 pub mod FieldRead
 pub mod HeadLineRead
 pub mod RowLineRead
+pub mod Decoded
+pub mod RowDecoded
+pub mod RowsDecoded

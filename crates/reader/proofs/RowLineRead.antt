@@ -38,10 +38,10 @@ module _ (text : List ℕ) (at l : ℕ) (row rest : List ℕ) (g : Row l row) (f
   pub tab-there : (q : ℕ) → q ≡ at + 4 + length (decimal (getD row 0 0)) → drop q text ≡ 9 ∷ (hex (drop 1 row) ++ 10 ∷ rest)
   tab-there q is = behind text (at + 4) q (decimal (getD row 0 0)) _ number-there is
 
-  values-there : (q : ℕ) → q ≡ at + 4 + length (decimal (getD row 0 0)) → drop (q + 1) text ≡ hex (drop 1 row) ++ 10 ∷ rest
+  pub values-there : (q : ℕ) → q ≡ at + 4 + length (decimal (getD row 0 0)) → drop (q + 1) text ≡ hex (drop 1 row) ++ 10 ∷ rest
   values-there q is = behind text q (q + 1) (9 ∷ []) _ (tab-there q is) refl
 
-  count : length (hex (drop 1 row)) ≡ l * 2
+  pub count : length (hex (drop 1 row)) ≡ l * 2
   count = length-hex (drop 1 row) ∙ omega (arith, length-drop 1 row, g .long)
 
   pub hex-there : (q : ℕ) → q ≡ at + 4 + length (decimal (getD row 0 0)) → HexStands text (q + 1) (l * 2)

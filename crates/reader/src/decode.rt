@@ -1,7 +1,6 @@
 // What was found right is decoded. A row's values are secret: their digits are read without a branch or an index.
 ghost use mathlib.Core.Path.{_≡_};
 ghost use Prim.Native.Nat.{_+_, _*_, _<_, _≤_, _^_};
-ghost use mathlib.Core.List.{_++_};
 ghost use lib.ListN.{length, take, drop};
 ghost use Rattle.rows.specs.Lengths.{fourBytes};
 ghost use Rattle.sheets.specs.ReadAs.{IsHexDigit, unhexDigit, unhex};

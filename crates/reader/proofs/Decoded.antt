@@ -12,7 +12,7 @@ use borrow.Rule.Slice.PartMut.{putMid}
 use Rattle.sheets.specs.ReadAs.{IsHexDigit, unhexDigit, unhex}
 use Rattle.sheets.specs.Writing.{Puts}
 use Rattle.sheets.proofs.Writing.{puts-nothing, puts-more, puts-two}
-use Rattle.sharing.proofs.Places.{all-in}
+use Rattle.shamir.proofs.Lists.{all-in}
 use Rattle.reader.specs.Taking.{HexStands}
 
 -- ---- digits

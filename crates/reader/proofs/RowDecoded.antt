@@ -13,7 +13,8 @@ use Rattle.sheets.specs.ReadAs.{unhex}
 use Rattle.sheets.proofs.Hex.{unhex-hex}
 use Rattle.reading.specs.Lines.{Row}
 use Rattle.reader.specs.Taking.{NumberAt, HexStands, SomeRow, TakesRow}
-use Rattle.reader.proofs.RowLineRead.{behind, number-there, id-small, values-there, count, hex-there, end-there}
+use Rattle.reader.proofs.WordRead.{behind}
+use Rattle.reader.proofs.RowLineRead.{number-there, id-small, values-there, count, hex-there, end-there}
 
 -- the identifier is written first, and behind it the values come back
 pub id-first : (id : ℕ) (out new : List ℕ) → 0 < length out → putMid 1 (length (set out 0 id) - 1) (set out 0 id) new ≡ id ∷ new

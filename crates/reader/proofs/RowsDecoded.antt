@@ -11,7 +11,7 @@ use lib.Seq.{drop-cons, take-all}
 use borrow.Rule.Slice.PartMut.{putMid}
 use Rattle.shamir.specs.Lists.{All}
 use Rattle.shamir.proofs.Lists.{all-drop}
-use Rattle.sharing.specs.Demands.{laid}
+use Rattle.rows.specs.Storage.{laid}
 use Rattle.sheets.specs.Sheet.{rowLine, rowLines}
 use Rattle.sheets.specs.Writing.{Puts}
 use Rattle.sheets.proofs.Writing.{puts-nothing, puts-then}

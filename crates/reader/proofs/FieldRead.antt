@@ -4,8 +4,7 @@ use mathlib.Core.Path.{_≡_, refl, ap, _∙_}
 use mathlib.Core.List.{List, [], _∷_, _++_}
 use Prim.Native.Nat.{ℕ, _+_, _<_, _≤_}
 use native.Mathlib.Omega.{arith}
-use lib.ListN.{length, drop}
-use lib.Seq.{drop-drop, drop-at}
+use lib.ListN.{length, drop, length-drop, length-append}
 use Rattle.sheets.specs.Text.{tab, decimal}
 use Rattle.sheets.specs.ReadAs.{IsDigit}
 use Rattle.reader.specs.Taking.{NumberAt, FieldAt}
@@ -30,3 +29,7 @@ module _ (text : List ℕ) (at least most : ℕ) where
 
     pub in-range : drop at text ≡ tab ∷ drop (at + 1) text → least ≤ r → r ≤ most → FieldAt text at least most r
     in-range tabbed low high = record { right = λ h. (low, high, tabbed ∙ ap (tab ∷_) (number .stands h)); only = is-it }
+
+pub field-inside : {text : List ℕ} {at least most r : ℕ} → FieldAt text at least most r → 0 < r → at + 1 + length (decimal r) ≤ length text
+field-inside {text} {at} {least} {most} {r} field some =
+    omega (arith, ap length (field .right some .2), length-drop at text, length-append (decimal r) (drop (at + 1 + length (decimal r)) text))

@@ -4,6 +4,8 @@ pub mod WordRead
 pub mod FieldRead
 pub mod HeadLineRead
 pub mod RowLineRead
+pub mod Judged
 pub mod Decoded
 pub mod RowDecoded
 pub mod RowsDecoded
+pub mod SheetRead

@@ -1,5 +1,6 @@
 // What was found right is decoded. A row's values are secret: their digits are read without a branch or an index.
 ghost use mathlib.Core.Path.{_≡_};
+ghost use mathlib.Core.List.{_++_};
 ghost use Prim.Native.Nat.{_+_, _*_, _<_, _≤_, _^_};
 ghost use lib.ListN.{length, take, drop};
 ghost use Rattle.rows.specs.Lengths.{fourBytes};
@@ -59,7 +60,7 @@ pub fn take_rows(text: &[u8], at: usize, m: usize, l: usize, out: &mut [u8])
 }
 
 // A number in four bytes, least first.
-pub fn put_four(out: &mut [u8], at: usize, n: usize)
+fn put_four(out: &mut [u8], at: usize, n: usize)
     requires { ⌜ (n < 2 ^ 32) × (at + 4 ≤ length (now out)) ⌝ }
     ensures { λ _. ⌜ Puts (fourBytes n) at (now (out .entry)) (at + 4) (now (out .exit)) ⌝ }
 {
@@ -67,4 +68,14 @@ pub fn put_four(out: &mut [u8], at: usize, n: usize)
     out[at + 1] = (n / 256 % 256) as u8;
     out[at + 2] = (n / 65536 % 256) as u8;
     out[at + 3] = (n / 16777216) as u8;
+}
+
+// The numbers of a first line, at the front.
+pub fn put_numbers(out: &mut [u8], threshold: usize, m: usize, l: usize)
+    requires { ⌜ (threshold < 2 ^ 32) × (m < 2 ^ 32) × (l < 2 ^ 32) × (12 ≤ length (now out)) ⌝ }
+    ensures { λ _. ⌜ Puts (fourBytes threshold ++ fourBytes m ++ fourBytes l) 0 (now (out .entry)) 12 (now (out .exit)) ⌝ }
+{
+    put_four(out, 0, threshold);
+    put_four(out, 4, m);
+    put_four(out, 8, l);
 }

@@ -61,7 +61,11 @@ pub fn read_head(text: &[u8]) -> Head
     if l == 0 {
         return NO_HEAD;
     }
-    if !is_at(text, third + 1 + sheets::decimal_length(l), sheets::LINE_FEED) {
+    if !is_at(
+        text,
+        third + 1 + sheets::decimal_length(l),
+        sheets::LINE_FEED,
+    ) {
         return NO_HEAD;
     }
     Head {

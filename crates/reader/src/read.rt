@@ -3,7 +3,7 @@ ghost use mathlib.Core.Path.{_≡_};
 ghost use lib.ListN.{length};
 ghost use Rattle.answer.specs.Answers.{answerOf};
 ghost use Rattle.reading.specs.Answer.{ReadsSheet};
-use crate::decode::put_four;
+use crate::decode::put_numbers;
 use crate::decode::take_rows;
 use crate::judge::wrong_line;
 use crate::lines::read_head;
@@ -36,9 +36,7 @@ pub fn read_sheet(text: &[u8], head: &mut [u8], out: &mut [u8]) -> Answer
     if out.len() < count {
         return Answer::Refused(Reason::NoRoom);
     }
-    put_four(head, 0, t);
-    put_four(head, 4, m);
-    put_four(head, 8, l);
+    put_numbers(head, t, m, l);
     take_rows(text, start, m, l, out);
     Answer::Done(count)
 }

@@ -48,7 +48,7 @@ further l (suc n) rows k h =
 pub begins-continued : (a b : List ℕ) → Continues (a ++ b) → Continues a
 begins-continued a b c = record { rest = b ++ c .rest; is-sheet = subst IsSheet (append-assoc a b (c .rest)) (c .is-sheet) }
 
-row-lines-append : (rows more : List (List ℕ)) → rowLines (rows ++ more) ≡ rowLines rows ++ rowLines more
+pub row-lines-append : (rows more : List (List ℕ)) → rowLines (rows ++ more) ≡ rowLines rows ++ rowLines more
 row-lines-append [] more = refl
 row-lines-append (r ∷ rows) more = ap (rowLine r ++_) (row-lines-append rows more) ∙ sym (append-assoc (rowLine r) (rowLines rows) (rowLines more))
 

@@ -1,71 +1,69 @@
+-- `wrong_line` meets its contract: the lines before the next one are those of right rows, and their identifiers are marked.
+-- Assumes nothing.
+use mathlib.Core.Path.{sym, subst}
+use Prim.Native.Nat.{_+_, _-_}
+use native.Mathlib.Omega.{arith}
+use lib.ListN.{set}
+use Rattle.reader.specs.Taking.{RowAt}
+use Rattle.reader.proofs.Judged.{ReadTo, nothing-read, no-row, id-byte, repeats, row-read, more-follows, all-right}
 use Rattle.reader.proofs.judge.wrong_line.Statement.{statement}
 use Rattle.reader.proofs.judge.wrong_line.Tie as tie
-use Rattle.reader.proofs.judge.wrong_line.Reads as reads
-use Rattle.reader.proofs.judge.wrong_line.Lts as lts
-use Rattle.reader.proofs.lines.read_row.Reads as read-row-reads
-use Rattle.sheets.proofs.row_length.Reads as row-length-reads
 
 abbrev Inv-loop : tie.InvT-loop
-Inv-loop text at m l seen₀ line₀ next₀ seen line next = ?
+Inv-loop text at m l seen₀ line₀ next₀ seen line next = ReadTo text at m l seen line next
 
 abbrev μ-loop : tie.MeasureT-loop
-μ-loop text at m l seen₀ line₀ next₀ seen line next = ?
+μ-loop text at m l seen₀ line₀ next₀ seen line next = m + 1 - line
 
--- src/judge.rt:21:5
 loop-holds : tie.Need-loop-holds Inv-loop μ-loop
-loop-holds c = ?
+loop-holds c = let a = c .before .args in nothing-read (a .text .now) (a .at) (a .m) (a .l) (c .before .pre .0)
 
--- src/judge.rt:22:13
 read-row-requires : tie.Need-read-row-requires Inv-loop μ-loop
-read-row-requires c κs = ?
+read-row-requires c κs = (c .before .loop .inv .inside, c .before .before .before .pre .2)
 
--- src/judge.rt:24:13
 returns : tie.Need-returns Inv-loop μ-loop
-returns c = ?
+returns c =
+    let a = c .before .before .before .before .before .args in
+    let l = c .before .before .before .loop in
+    no-row (l .inv) (c .before .before .loop-test .taken) (subst (RowAt (a .text .now) (l .next) (a .l)) (c .if1 .taken) (c .before .read-row .ensures))
 
--- src/judge.rt:26:12
 array-read-if2 : tie.Need-array-read-if2 Inv-loop μ-loop
-array-read-if2 c = ?
+array-read-if2 c = id-byte (c .before .before .before .loop .inv) (c .before .read-row .ensures) (omega (arith, c .if1 .left))
 
--- src/judge.rt:27:13
 returns-2 : tie.Need-returns-2 Inv-loop μ-loop
-returns-2 c = ?
+returns-2 c =
+    repeats (c .before .before .before .before .loop .inv) (c .before .before .read-row .ensures) (omega (arith, c .before .if1 .left)) (c .before .before .before .loop-test .taken) (c .if2 .taken)
 
--- src/judge.rt:29:9
 array-write-seen : tie.Need-array-write-seen Inv-loop μ-loop
-array-write-seen c = ?
+array-write-seen c = id-byte (c .before .before .before .before .loop .inv) (c .before .before .read-row .ensures) (omega (arith, c .before .if1 .left))
 
--- src/judge.rt:30:36
 cast-row-length : tie.Need-cast-row-length Inv-loop μ-loop
-cast-row-length c = ?
+cast-row-length c = omega (arith, id-byte (c .before .before .before .before .loop .inv) (c .before .before .read-row .ensures) (omega (arith, c .before .if1 .left)))
 
--- src/judge.rt:30:17
 row-length-requires : tie.Need-row-length-requires Inv-loop μ-loop
-row-length-requires c κs = ?
+row-length-requires c κs = c .before .before .before .before .before .before .pre .2
 
--- src/judge.rt:30:9
 add-next : tie.Need-add-next Inv-loop μ-loop
-add-next c = ?
+add-next c = omega (arith, c .row-length .ensures .1, c .before .before .before .before .before .loop .inv .inside)
 
--- src/judge.rt:31:9
 add-line : tie.Need-add-line Inv-loop μ-loop
-add-line c = ?
+add-line c = omega (arith, c .before .before .before .before .loop-test .taken)
 
--- src/judge.rt:21:5
 loop-less : tie.Need-loop-less Inv-loop μ-loop
-loop-less c = ?
+loop-less c = let more = c .before .before .before .before .loop-test .taken in omega arith
 
--- src/judge.rt:21:5
 loop-again : tie.Need-loop-again Inv-loop μ-loop
-loop-again c = ?
+loop-again c =
+    let a = c .before .before .before .before .before .before .before .args in
+    let l = c .before .before .before .before .before .loop in
+    subst (λ n. ReadTo (a .text .now) (a .at) (a .m) (a .l) (set (l .seen) (c .before .before .before .read-row .result) 1) (l .line + 1) (l .next + n)) (sym (c .row-length .ensures .0))
+    (row-read (l .inv) (c .before .before .before .read-row .ensures) (omega (arith, c .before .before .if1 .left)) (c .before .before .before .before .loop-test .taken) (c .before .if2 .left))
 
--- src/judge.rt:34:9
 returns-3 : tie.Need-returns-3 Inv-loop μ-loop
-returns-3 c = ?
+returns-3 c = more-follows (c .before .before .loop .inv) (omega arith) (c .if3 .taken)
 
--- src/judge.rt:14:1
 returns-4 : tie.Need-returns-4 Inv-loop μ-loop
-returns-4 c = ?
+returns-4 c = all-right (c .before .before .loop .inv) (omega arith) (c .if3 .left)
 
 pub wrong-line-spec : {M : Type 1} → statement M
 wrong-line-spec =

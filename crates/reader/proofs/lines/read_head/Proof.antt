@@ -1,92 +1,84 @@
+-- `read_head` meets its contract: each test that fails shows that the text begins with no first line.
+-- Assumes nothing.
+use mathlib.Core.Path.{ap}
+use Prim.Native.Nat.{_+_}
+use native.Mathlib.Omega.{arith}
 use borrow.Author.Needs.{needs}
+use borrow.Author.Tests.{not-true, not-false}
+use Rattle.reader.proofs.FieldRead.{field-inside}
+use Rattle.reader.proofs.HeadLineRead.{no-word, no-threshold, no-rows, no-values, no-end, head-passes}
 use Rattle.reader.proofs.lines.read_head.Statement.{statement}
 use Rattle.reader.proofs.lines.read_head.Tie as tie
-use Rattle.reader.proofs.lines.read_head.Reads as reads
-use Rattle.reader.proofs.lines.read_head.Lts as lts
-use Rattle.reader.proofs.lines.read_field.Reads as read-field-reads
-use Rattle.reader.proofs.taking.is_at.Reads as is-at-reads
-use Rattle.reader.proofs.taking.word_at.Reads as word-at-reads
-use Rattle.sheets.proofs.decimal_length.Reads as decimal-length-reads
 
--- src/lines.rt:47:26
 slice-aggregate-word-at : tie.Need-slice-aggregate-word-at
 slice-aggregate-word-at c = search needs
 
--- src/lines.rt:47:9
 word-at-requires : tie.Need-word-at-requires
 word-at-requires c κs = search needs
 
--- src/lines.rt:48:9
 returns : tie.Need-returns
-returns c = ?
+returns c = no-word (c .before .before .before .before .args .text .now) (c .before .word-at .ensures .no (not-true _ (c .if1 .taken)))
 
--- src/lines.rt:50:9
 read-field-requires : tie.Need-read-field-requires
-read-field-requires c κs = ?
+read-field-requires c κs = (omega (arith, c .before .word-at .ensures .yes (not-false _ (c .if1 .left)) .0), omega arith, omega arith)
 
--- src/lines.rt:52:9
 returns-2 : tie.Need-returns-2
-returns-2 c = ?
+returns-2 c = no-threshold (c .before .before .before .before .before .before .args .text .now) (c .before .read-field .ensures) (c .if2 .taken)
 
--- src/lines.rt:54:22
 decimal-length-requires : tie.Need-decimal-length-requires
-decimal-length-requires c κs = ?
+decimal-length-requires c κs = omega (arith, c .before .read-field .ensures .right (omega (arith, c .if2 .left)) .1)
 
--- src/lines.rt:54:18
 add-second : tie.Need-add-second
 add-second c = search needs
 
--- src/lines.rt:55:9
 read-field-requires-2 : tie.Need-read-field-requires-2
-read-field-requires-2 c κs = ?
+read-field-requires-2 c κs = (omega (arith, c .decimal-length .ensures .0, field-inside (c .before .before .read-field .ensures) (omega (arith, c .before .if2 .left))), omega arith, omega arith)
 
--- src/lines.rt:57:9
 returns-3 : tie.Need-returns-3
-returns-3 c = ?
+returns-3 c =
+    no-rows (c .before .before .before .before .before .before .before .before .before .args .text .now) (c .before .before .before .before .read-field .ensures) (ap (5 +_) (c .before .before .decimal-length .ensures .0)) (c .before .read-field2 .ensures) (c .if3 .taken)
 
--- src/lines.rt:59:17
 add-third : tie.Need-add-third
 add-third c = search needs
 
--- src/lines.rt:59:30
 decimal-length-requires-2 : tie.Need-decimal-length-requires-2
-decimal-length-requires-2 c κs = ?
+decimal-length-requires-2 c κs = omega (arith, c .before .read-field2 .ensures .right (omega (arith, c .if3 .left)) .1)
 
--- src/lines.rt:59:17
 add-third-2 : tie.Need-add-third-2
 add-third-2 c = search needs
 
--- src/lines.rt:60:9
 read-field-requires-3 : tie.Need-read-field-requires-3
-read-field-requires-3 c κs = ?
+read-field-requires-3 c κs = (omega (arith, c .decimal-length2 .ensures .0, field-inside (c .before .before .read-field2 .ensures) (omega (arith, c .before .if3 .left))), omega arith, omega arith)
 
--- src/lines.rt:62:9
 returns-4 : tie.Need-returns-4
-returns-4 c = ?
+returns-4 c =
+    no-values (c .before .before .before .before .before .before .before .before .before .before .before .before .args .text .now) (c .before .before .before .before .before .before .before .read-field .ensures) (ap (5 +_) (c .before .before .before .before .before .decimal-length .ensures .0)) (c .before .before .before .before .read-field2 .ensures)
+    (ap (λ x. 5 + c .before .before .before .before .before .decimal-length .result + 1 + x) (c .before .before .decimal-length2 .ensures .0)) (c .before .read-field3 .ensures) (c .if4 .taken)
 
--- src/lines.rt:64:21
 add-is-at : tie.Need-add-is-at
 add-is-at c = search needs
 
--- src/lines.rt:64:33
 decimal-length-requires-3 : tie.Need-decimal-length-requires-3
-decimal-length-requires-3 c κs = ?
+decimal-length-requires-3 c κs = omega (arith, c .before .read-field3 .ensures .right (omega (arith, c .if4 .left)) .1)
 
--- src/lines.rt:64:21
 add-is-at-2 : tie.Need-add-is-at-2
 add-is-at-2 c = search needs
 
--- src/lines.rt:64:9
 is-at-requires : tie.Need-is-at-requires
 is-at-requires c κs = search needs
 
--- src/lines.rt:65:9
 returns-5 : tie.Need-returns-5
-returns-5 c = ?
+returns-5 c =
+    no-end (c .before .before .before .before .before .before .before .before .before .before .before .before .before .before .before .args .text .now) (c .before .before .before .before .before .before .before .before .before .before .read-field .ensures) (ap (5 +_) (c .before .before .before .before .before .before .before .before .decimal-length .ensures .0)) (c .before .before .before .before .before .before .before .read-field2 .ensures)
+    (ap (λ x. 5 + c .before .before .before .before .before .before .before .before .decimal-length .result + 1 + x) (c .before .before .before .before .before .decimal-length2 .ensures .0)) (c .before .before .before .before .read-field3 .ensures)
+    (ap (λ x. 5 + c .before .before .before .before .before .before .before .before .decimal-length .result + 1 + c .before .before .before .before .before .decimal-length2 .result + 1 + x) (c .before .before .decimal-length3 .ensures .0)) (c .before .is-at .ensures .no (not-true _ (c .if5 .taken)))
 
--- src/lines.rt:44:1
 returns-6 : tie.Need-returns-6
-returns-6 c = ?
+returns-6 c =
+    head-passes (c .before .before .before .before .before .before .before .before .before .before .before .before .before .before .before .args .text .now) (c .before .before .before .before .before .before .before .before .before .before .read-field .ensures) (ap (5 +_) (c .before .before .before .before .before .before .before .before .decimal-length .ensures .0)) (c .before .before .before .before .before .before .before .read-field2 .ensures)
+    (ap (λ x. 5 + c .before .before .before .before .before .before .before .before .decimal-length .result + 1 + x) (c .before .before .before .before .before .decimal-length2 .ensures .0)) (c .before .before .before .before .read-field3 .ensures)
+    (ap (λ x. 5 + c .before .before .before .before .before .before .before .before .decimal-length .result + 1 + c .before .before .before .before .before .decimal-length2 .result + 1 + x) (c .before .before .decimal-length3 .ensures .0)) (c .before .before .before .before .before .before .before .before .before .before .before .before .word-at .ensures .yes (not-false _ (c .before .before .before .before .before .before .before .before .before .before .before .if1 .left)) .1) (omega (arith, c .before .before .before .before .before .before .before .before .before .if2 .left)) (omega (arith, c .before .before .before .before .before .before .if3 .left)) (omega (arith, c .before .before .before .if4 .left))
+    (c .before .is-at .ensures .yes (not-false _ (c .if5 .left)) .1)
 
 pub read-head-spec : {M : Type 1} → statement M
 read-head-spec =

@@ -16,7 +16,7 @@ word-at-requires : tie.Need-word-at-requires
 word-at-requires c κs = search needs
 
 returns : tie.Need-returns
-returns c = 
+returns c =
     let a = c .before .before .before .before .args in
     no-word (a .text .now) (a .at) (a .l) (c .before .word-at .ensures .no (not-true _ (c .if1 .taken)))
 
@@ -27,7 +27,7 @@ read-field-requires : tie.Need-read-field-requires
 read-field-requires c κs = (omega (arith, c .before .word-at .ensures .yes (not-false _ (c .if1 .left)) .0), omega arith, omega arith)
 
 returns-2 : tie.Need-returns-2
-returns-2 c = 
+returns-2 c =
     let a = c .before .before .before .before .before .before .args in
     no-id (a .text .now) (a .at) (a .l) (c .before .read-field .ensures) (c .if2 .taken)
 
@@ -44,7 +44,7 @@ is-at-requires : tie.Need-is-at-requires
 is-at-requires c κs = search needs
 
 returns-3 : tie.Need-returns-3
-returns-3 c = 
+returns-3 c =
     let a = c .before .before .before .before .before .before .before .before .before .args in
     no-tab (a .text .now) (a .at) (a .l) (c .before .before .before .before .read-field .ensures) (ap (a .at + 4 +_) (c .before .before .decimal-length .ensures .0))
     (c .before .is-at .ensures .no (not-true _ (c .if3 .taken)))
@@ -59,7 +59,7 @@ hex-at-requires : tie.Need-hex-at-requires
 hex-at-requires c κs = omega (arith, c .before .is-at .ensures .yes (not-false _ (c .if3 .left)) .0)
 
 returns-4 : tie.Need-returns-4
-returns-4 c = 
+returns-4 c =
     let a = c .before .before .before .before .before .before .before .before .before .before .before .args in
     no-values (a .text .now) (a .at) (a .l) (c .before .before .before .before .before .before .read-field .ensures) (ap (a .at + 4 +_) (c .before .before .before .before .decimal-length .ensures .0))
     (c .before .hex-at .ensures .no (not-true _ (c .if4 .taken)))
@@ -77,13 +77,13 @@ is-at-requires-2 : tie.Need-is-at-requires-2
 is-at-requires-2 c κs = search needs
 
 returns-5 : tie.Need-returns-5
-returns-5 c = 
+returns-5 c =
     let a = c .before .before .before .before .before .before .before .before .before .before .before .before .before .args in
     no-end (a .text .now) (a .at) (a .l) (c .before .before .before .before .before .before .before .before .read-field .ensures) (ap (a .at + 4 +_) (c .before .before .before .before .before .before .decimal-length .ensures .0))
     (c .before .is-at2 .ensures .no (not-true _ (c .if5 .taken)))
 
 returns-6 : tie.Need-returns-6
-returns-6 c = 
+returns-6 c =
     let a = c .before .before .before .before .before .before .before .before .before .before .before .before .before .args in
     row-passes (a .text .now) (a .at) (a .l) (c .before .before .before .before .before .before .before .before .read-field .ensures) (ap (a .at + 4 +_) (c .before .before .before .before .before .before .decimal-length .ensures .0))
     (omega (arith, c .before .before .before .before .before .before .before .if2 .left)) (c .before .before .before .hex-at .ensures .yes (not-false _ (c .before .before .if4 .left)))

@@ -1,0 +1,2 @@
+pub mod AfterLine
+pub mod Shown

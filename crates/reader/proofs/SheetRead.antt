@@ -9,14 +9,13 @@ use lib.Dec.{ltb}
 use lib.ListN.{length, drop, length-append}
 use borrow.Author.Tests.{lt-ltb, le-ltb}
 use Rattle.answer.specs.Outcome.{Outcome, done, refused, refuse}
-use Rattle.shamir.specs.Lists.{All}
 use Rattle.rows.specs.Storage.{laid}
 use Rattle.rows.specs.Lengths.{fourBytes}
 use Rattle.sheets.specs.Sheet.{headLine}
 use Rattle.sheets.specs.Writing.{Puts}
-use Rattle.reading.specs.Lines.{Row}
 use Rattle.reading.specs.Unsheet.{Read, sheetOf, notAt, unrows, unsheet}
 use Rattle.reading.specs.Answer.{answerTo, headOf, rowsOf, leftIn, readAnswer, readHead, readRows, ReadsSheet}
+use Rattle.reading.proofs.LaidRows.{length-laid}
 use Rattle.reading.proofs.Beginnings.{head-right}
 use Rattle.reading.proofs.Unrows.{unrows-finds}
 use Rattle.reader.specs.Taking.{HeadRead, RowsStand, SomeRows, LinesAt, TakesRows}
@@ -41,10 +40,6 @@ module _ {text : List ℕ} {t m l at : ℕ} (h : HeadRead text t m l) (some : 0 
       reads-on
       ∙ ap₂ (λ n x. unrows t l n 1 [] x) (sym (s .count)) (s .stand)
       ∙ unrows-finds t l rows [] 1 (s .are-rows .each) (s .are-rows .distinct)
-
-length-laid : (l : ℕ) (rows : List (List ℕ)) → All (Row l) rows → length (laid rows) ≡ length rows * (l + 1)
-length-laid l [] h = omega arith
-length-laid l (row ∷ rows) h = omega (arith, length-append row (laid rows), length-laid l rows (h .1), h .0 .long)
 
 pub rows-long : {text : List ℕ} {at m l : ℕ} {rows : List (List ℕ)} → RowsStand text at m l rows → length (laid rows) ≡ m * (l + 1)
 rows-long {text} {at} {m} {l} {rows} s = length-laid l rows (s .are-rows .each) ∙ ap (_* (l + 1)) (s .count)

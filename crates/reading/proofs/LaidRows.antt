@@ -2,18 +2,23 @@
 -- Assumes nothing.
 use mathlib.Core.Path.{_≡_, refl, ap, ap₂, _∙_}
 use mathlib.Core.List.{List, [], _∷_}
-use Prim.Native.Nat.{ℕ, _*_, _/_, _%_, _^_, _<_}
+use Prim.Native.Nat.{ℕ, _+_, _*_, _/_, _%_, _^_, _<_}
 use native.Mathlib.Omega.{arith}
-use lib.ListN.{length}
+use lib.ListN.{length, length-append}
 use Rattle.shamir.specs.Lists.{All, Below}
 use Rattle.shamir.proofs.Lists.{all-append}
 use Rattle.rows.specs.Storage.{laid}
 use Rattle.rows.specs.Lengths.{four, fours, lengthsOf}
+use Rattle.reading.specs.Lines.{Row}
 use Rattle.sheets.proofs.LengthBytes.{lengthBytes}
 
 pub below-laid : (n : ℕ) (rows : List (List ℕ)) → All (Below n) rows → Below n (laid rows)
 below-laid n [] h = tt
 below-laid n (r ∷ rows) h = all-append (_< n) r (laid rows) (h .0) (below-laid n rows (h .1))
+
+pub length-laid : (l : ℕ) (rows : List (List ℕ)) → All (Row l) rows → length (laid rows) ≡ length rows * (l + 1)
+length-laid l [] h = omega arith
+length-laid l (row ∷ rows) h = omega (arith, length-append row (laid rows), length-laid l rows (h .1), h .0 .long)
 
 -- ---- their lengths
 

@@ -12,4 +12,5 @@ pub mod Unrows
 pub mod Stops
 pub mod Unsheet
 pub mod Refusals
+pub mod Bounds
 pub mod Example

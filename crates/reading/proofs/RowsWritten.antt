@@ -10,7 +10,7 @@ use lib.Dec.{eqb, ltb}
 use lib.ListN.{length, getD, length-map}
 use borrow.Author.Tests.{eq-eqb, le-ltb}
 use Rattle.answer.specs.Outcome.{Outcome, done}
-use Rattle.shamir.specs.Lists.{All, Below, Fresh, Distinct}
+use Rattle.shamir.specs.Lists.{All, Below, Fresh}
 use Rattle.shamir.proofs.Lists.{all-map, all-both}
 use Rattle.rows.specs.Search.{sum, allAre, firstRepeated, placeOf, within}
 use Rattle.rows.specs.Storage.{cut, laid, identifiers}

@@ -23,10 +23,10 @@ use Rattle.reading.proofs.Unrows.{unrows-finds, unrows-takes}
 pub no-rows : (l : ℕ) → Rows l []
 no-rows l = record { each = tt; distinct = tt }
 
-abbrev found : {text : List ℕ} → IsSheet text → Read
-found s = let ns = lengthsOf (s .lengths) in sheetOf (s .threshold) (secretLength ns) (cut ns (s .storage))
+abbrev asWritten : {text : List ℕ} → IsSheet text → Read
+asWritten s = let ns = lengthsOf (s .lengths) in sheetOf (s .threshold) (secretLength ns) (cut ns (s .storage))
 
-pub finds : (text : List ℕ) (s : IsSheet text) → unsheet text ≡ found s
+pub finds : (text : List ℕ) (s : IsSheet text) → unsheet text ≡ asWritten s
 unfolding sheet
 finds text s =
     let ns = lengthsOf (s .lengths) in
@@ -41,15 +41,29 @@ stored text s =
     let a = accepted-sheet (s .threshold) (s .storage) (s .lengths) (s .room) (s .count) (s .accepted) in
     laid-cut (lengthsOf (s .lengths)) (s .storage) (omega (arith, rows-fill (a .rows)))
 
-pub accepts : (text : List ℕ) (t l : ℕ) (rows : List (List ℕ)) → unsheet text ≡ sheetOf t l rows → SheetOf t l rows text
+-- a text in which a sheet is found: its first line is in range, its rows are rows, and it is theirs
+pub record Found (t l : ℕ) (rows : List (List ℕ)) (text : List ℕ) : Type 0 where
+  pub head : Head t (length rows) l
+  pub are-rows : Rows l rows
+  pub whole : text ≡ sheet t l rows
+
+pub found-rows : (text : List ℕ) (t l : ℕ) (rows : List (List ℕ)) → unsheet text ≡ sheetOf t l rows → Found t l rows text
 unfolding sheet
-accepts text t l rows e =
+found-rows text t l rows e =
     ⊎-elim
     (λ b.
     let r = head-right (b .t) (b .m) (b .l) (b .head) (b .later) in
     let n = unrows-takes (b .t) (b .l) (b .m) 1 [] (b .later) t l rows (no-rows (b .l)) (sym (ap unsheet (b .parts) ∙ r) ∙ e) in
-    let whole : text ≡ sheet (b .t) (b .l) (n .more) = b .parts ∙ ap₂ (λ m x. headLine (b .t) m (b .l) ++ x) (sym (n .count)) (n .lines) in
-    let s = rows-sheet (b .t) (b .l) (n .more) (subst (λ m. Head (b .t) m (b .l)) (sym (n .count)) (b .head)) (n .are-rows) in
-    subst₃ (λ x y z. SheetOf x y z text) (n .threshold-is) (n .values-are) (n .found-is) (subst (SheetOf (b .t) (b .l) (n .more)) (sym whole) s))
+    subst₃ (λ x y z. Found x y z text) (n .threshold-is) (n .values-are) (n .found-is)
+    (record {
+      head = subst (λ m. Head (b .t) m (b .l)) (sym (n .count)) (b .head);
+      are-rows = n .are-rows;
+      whole = b .parts ∙ ap₂ (λ m x. headLine (b .t) m (b .l) ++ x) (sym (n .count)) (n .lines);
+    }))
     (λ w. absurd (let f = head-wrong text w in let z : _≡_ {A = ℕ} 0 1 = cc in omega arith))
     (head-or-not text)
+
+pub accepts : (text : List ℕ) (t l : ℕ) (rows : List (List ℕ)) → unsheet text ≡ sheetOf t l rows → SheetOf t l rows text
+accepts text t l rows e =
+    let f = found-rows text t l rows e in
+    subst (SheetOf t l rows) (sym (f .whole)) (rows-sheet t l rows (f .head) (f .are-rows))

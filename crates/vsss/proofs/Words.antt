@@ -27,6 +27,8 @@ use Rattle.sharing.proofs.RowSet.{byte-lengths-chain, accepted-bytes}
 use Rattle.sharing.proofs.RowSet as row-set
 use Rattle.sheets.specs.Sheet.{sheet, sheetText, sheetAnswer}
 use Rattle.sheets.proofs.PutRows.{sheet-short}
+use Rattle.reading.specs.Answer.{readAnswer}
+use Rattle.reading.proofs.Bounds.{Bounded, bounded}
 use Rattle.vsss.specs.Words.{Fits, Readable, Determined}
 
 small : (o : Outcome) → Fits o → wordOf o < 2 ^ 64
@@ -139,8 +141,15 @@ fits-sheet t s lengths room bytes =
     subst (λ x. length x < 2 ^ 40) text
     (sheet-short t n (length lengths / 4) s (ltb-false maxShares t high) few (k .most) (omega (arith, k .filled)) bytes)))))
 
+fits-bounded : (o : Outcome) → Bounded o → Fits o
+fits-bounded (done count) h = omega arith
+fits-bounded (refused number first second) h = omega arith
+
+fits-read : (text : List ℕ) (headRoom room : ℕ) → Fits (readAnswer text headRoom room)
+fits-read text headRoom room = fits-bounded (readAnswer text headRoom room) (bounded text headRoom room)
+
 pub readable : Readable
-readable = record { small = small; told = told; split = fits-split; combine = fits-bytes; sheet = fits-sheet }
+readable = record { small = small; told = told; split = fits-split; combine = fits-bytes; sheet = fits-sheet; read = fits-read }
 
 -- the words of the entries, as their code asks for them
 pub split-word : (t n l : ℕ) (ids : List ℕ) (count room : ℕ) → wordOf (splitOutcome t n l ids count room) < 2 ^ 64
@@ -155,6 +164,9 @@ sheet-word t s lengths room bytes = small (sheetAnswer t s lengths room) (fits-s
     all : (xs : List ℕ) → ((i : ℕ) → getD xs i 0 < 256) → Below 256 xs
     all [] h = tt
     all (x ∷ xs) h = (h 0, all xs (λ i. h (suc i)))
+
+pub read-word : (text : List ℕ) (headRoom room : ℕ) → wordOf (readAnswer text headRoom room) < 2 ^ 64
+read-word text headRoom room = small (readAnswer text headRoom room) (fits-read text headRoom room)
 
 pub determined : Determined
 determined outcome bytes left right w v p q = (p .answers ∙ sym (q .answers), p .leaves ∙ sym (q .leaves))

@@ -8,6 +8,7 @@ use Rattle.shamir.specs.Lists.{Below}
 use Rattle.sharing.specs.Split.{splitOutcome}
 use Rattle.sharing.specs.ByteLengths.{byteLengthsAnswer}
 use Rattle.sheets.specs.Sheet.{sheetAnswer}
+use Rattle.reading.specs.Answer.{readAnswer}
 
 -- an outcome whose parts keep to their bits of the word
 abbrev pub Fits : Outcome → Type 0
@@ -21,6 +22,7 @@ pub record Readable : Type 0 where
   pub split : (t n l : ℕ) (ids : List ℕ) (count room : ℕ) → Fits (splitOutcome t n l ids count room)
   pub combine : (s lengths : List ℕ) (room : ℕ) → Fits (byteLengthsAnswer s lengths room)
   pub sheet : (t : ℕ) (s lengths : List ℕ) (room : ℕ) → Below 256 s → Fits (sheetAnswer t s lengths room)
+  pub read : (text : List ℕ) (headRoom room : ℕ) → Fits (readAnswer text headRoom room)
 
 -- the promise of an entry: the word of this outcome, and these bytes in the output
 pub record Gives (outcome : Outcome) (bytes : List ℕ) (word : ℕ) (left : List ℕ) : Type 0 where

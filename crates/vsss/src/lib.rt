@@ -7,6 +7,7 @@ ghost use Rattle.answer.specs.Answers.{answerOf};
 ghost use Rattle.sharing.specs.Split.{splitOutcome, splitBytes};
 ghost use Rattle.sharing.specs.ByteLengths.{byteLengthsAnswer, byteLengthsBytes};
 ghost use Rattle.sheets.specs.Sheet.{sheetAnswer, sheetBytes};
+ghost use Rattle.reading.specs.Answer.{readAnswer, readHead, readRows};
 ghost use Rattle.vsss.specs.Words.{Gives};
 use answer::Answer;
 
@@ -72,4 +73,15 @@ pub extern "C" fn vsss_write_sheet(
         r (now (out .exit)) ⌝ }
 {
     word(sheets::write_sheet(threshold, rows, lengths, out))
+}
+
+#[no_mangle]
+pub extern "C" fn vsss_read_sheet(text: &[u8], head: &mut [u8], out: &mut [u8]) -> u64
+    ensures { λ r. ⌜ Gives
+        (readAnswer (now (text .entry)) (length (now (head .entry))) (length (now (out .entry))))
+        (readRows (now (text .entry)) (now (head .entry)) (now (out .entry)))
+        r (now (out .exit)) ⌝ }
+    ensures { λ r. ⌜ now (head .exit) ≡ readHead (now (text .entry)) (now (head .entry)) (now (out .entry)) ⌝ }
+{
+    word(reader::read_sheet(text, head, out))
 }

@@ -220,11 +220,16 @@ pub fn random_read_call(random: &mut Random) -> ReadCall {
         text = (0..count).map(|_| likely(random)).collect();
     }
     ReadCall {
-        head: [12, 12, 12, 20, 11, 0][random.between(0, 5)],
-        room: match random.between(0, 9) {
+        head: match random.between(0, 19) {
+            0 => 0,
+            1 => 11,
+            2..=5 => random.between(13, 20),
+            _ => 12,
+        },
+        room: match random.between(0, 19) {
             0 => exact - 1,
             1 => random.between(0, exact),
-            2..=5 => exact + random.between(1, 40),
+            2..=9 => exact + random.between(1, 40),
             _ => exact,
         },
         text,

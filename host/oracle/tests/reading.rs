@@ -156,7 +156,7 @@ fn nothing_is_found_where_nothing_is_planted() {
     let tally = summary.tally;
     assert!(tally.done > 5000, "{tally}");
     for number in [12, 14] {
-        assert!(tally.refused[number] > 5000, "{number}: {tally}");
+        assert!(tally.refused[number] > 2000, "{number}: {tally}");
     }
     let write = |threshold, rows: &[u8], lengths: &[u8], out: &mut [u8]| {
         write_sheet(threshold, rows, lengths, out).to_word()

@@ -84,9 +84,9 @@ uint64_t vsss_write_sheet(size_t threshold,
  * entry.
  *
  * Done: the count of bytes written to `out`. Bytes behind those written keep their values, in both.
- * Refused: as above. For VSSS_INVALID_SHEET the first place is a line, counted from 0: the first at
- * which the text up to its end can no longer be continued to a sheet, or the one behind the last
- * complete line where there is none. */
+ * Refused: as above. For VSSS_INVALID_SHEET the first place is a line, counted from 0: the first with
+ * which the text can no longer be continued to a sheet; where every complete line can, the one behind
+ * them. */
 uint64_t vsss_read_sheet(const uint8_t *text, size_t text_len,
                          uint8_t *head, size_t head_len,
                          uint8_t *out, size_t out_len);
@@ -94,7 +94,8 @@ uint64_t vsss_read_sheet(const uint8_t *text, size_t text_len,
 /* The three numbers of a sheet's first line. */
 #define VSSS_HEAD_ROOM 12
 
-/* Bytes that the rows of every sheet of so many bytes fit into: a line has two for each of a row. */
+/* Bytes that the rows of every sheet of so many bytes fit into: the line of a row has two characters
+ * for each of its bytes, and more. */
 #define VSSS_ROWS_ROOM(text_len) ((size_t)(text_len) / 2)
 
 /* What a word says: VSSS_NUMBER is 0 where it is a count, else the number of the refusal. The

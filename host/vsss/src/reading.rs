@@ -71,9 +71,9 @@ pub struct Sheet {
 /// Reads a sheet: exactly the texts that [`sheet`](crate::sheet) gives are read, each as the
 /// threshold and the rows that it was made from.
 ///
-/// Any other text is refused by [`Refusal::InvalidSheet`] with a line, counted from 0: the first at
-/// which the text up to its end can no longer be continued to a sheet. Where all complete lines can,
-/// and the last line feed or a row is missing, it is the line behind them.
+/// Any other text is refused by [`Refusal::InvalidSheet`] with a line, counted from 0: the first with
+/// which the text can no longer be continued to a sheet. Where every complete line can, and the last
+/// line feed or a row is missing, it is the line behind them.
 ///
 /// The text is judged byte by byte, so that, unlike elsewhere in this library, the time that it
 /// takes depends on the values.

@@ -53,8 +53,8 @@ pub enum Refusal {
     RowLengths,
     /// 14: a text to be read is no sheet.
     InvalidSheet {
-        /// The first line at which the text up to its end can no longer be continued to a sheet;
-        /// where there is none, the line behind the last complete one.
+        /// The first line with which the text can no longer be continued to a sheet; where every
+        /// complete line can, the one behind them.
         line: usize,
     },
     /// The library answered with a word that has no meaning: archive and wrapper do not belong

@@ -1,6 +1,7 @@
-/* Calls the three entries under valgrind's memcheck with every secret byte marked undefined.
- * Memcheck then reports each jump and each address that depends on one. What is public stays
- * defined: identifiers, lengths, thresholds.
+/* Calls split, combine and the writer of sheets under valgrind's memcheck with every secret byte
+ * marked undefined. Memcheck then reports each jump and each address that depends on one. What is
+ * public stays defined: identifiers, lengths, thresholds. The reader of sheets judges its text, and
+ * so has jumps that depend on all of it.
  *
  * Memcheck follows the marks, not the values. Without a report the path is the same for every
  * secret of a shape, so one secret a shape is enough, and the shapes are chosen for the paths:

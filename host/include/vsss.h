@@ -7,7 +7,7 @@
  * Every entry judges its whole input and always returns. What a caller owes:
  *   - each pointer is to as many bytes as the length behind it says; it is not NULL, also where
  *     the length is 0;
- *   - `out` overlaps no other buffer.
+ *   - what is written, `out` and `head`, overlaps no other buffer.
  *
  * Build with: cc -I host/include caller.c target/host/libvsss.a
  */
@@ -71,6 +71,33 @@ uint64_t vsss_write_sheet(size_t threshold,
  * more than 3 digits, but for the count of values with 4. */
 #define VSSS_SHEET_ROOM(count, values) (18 + (size_t)(count) * (9 + 2 * (size_t)(values)))
 
+/* Reads a sheet: writes its rows one after another from the start of `out`, each its identifier and
+ * then its values, and what its first line says from the start of `head`.
+ *
+ *   text   a sheet as vsss_write_sheet writes it, whole and with nothing behind it; no other text is
+ *          accepted
+ *   head   at least VSSS_HEAD_ROOM bytes: the threshold, the count of rows and that of a row's
+ *          values, four bytes each, least first
+ *   out    at least count * (values + 1) bytes; VSSS_ROWS_ROOM of them are always enough
+ *
+ * Every byte of the text is judged, so jumps depend on it: on its values too, which is so in no other
+ * entry.
+ *
+ * Done: the count of bytes written to `out`. Bytes behind those written keep their values, in both.
+ * Refused: as above. For VSSS_INVALID_SHEET the first place is a line, counted from 0: the first with
+ * which the text can no longer be continued to a sheet; where every complete line can, the one behind
+ * them. */
+uint64_t vsss_read_sheet(const uint8_t *text, size_t text_len,
+                         uint8_t *head, size_t head_len,
+                         uint8_t *out, size_t out_len);
+
+/* The three numbers of a sheet's first line. */
+#define VSSS_HEAD_ROOM 12
+
+/* Bytes that the rows of every sheet of so many bytes fit into: the line of a row has two characters
+ * for each of its bytes, and more. */
+#define VSSS_ROWS_ROOM(text_len) ((size_t)(text_len) / 2)
+
 /* What a word says: VSSS_NUMBER is 0 where it is a count, else the number of the refusal. The
  * places count from 0, and are 0 where a refusal has none. */
 #define VSSS_NUMBER(word) ((unsigned)((uint64_t)(word) >> 40))
@@ -89,9 +116,10 @@ enum vsss_refusal {
     VSSS_INVALID_SHARE_ELEMENT = 9,              /* never given by these entries */
     VSSS_TOO_LONG = 10,                          /* a secret over 4,096 bytes, or rows of it */
     VSSS_COEFFICIENT_COUNT = 11,
-    VSSS_NO_ROOM = 12,                           /* out is too short */
-    VSSS_ROW_LENGTHS = 13                        /* not whole fours, over 65,535, or not
+    VSSS_NO_ROOM = 12,                           /* out or head is too short */
+    VSSS_ROW_LENGTHS = 13,                       /* not whole fours, over 65,535, or not
                                                     summing to rows_len */
+    VSSS_INVALID_SHEET = 14                      /* no sheet, from the line at the first place on */
 };
 
 #ifdef __cplusplus

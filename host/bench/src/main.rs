@@ -1,5 +1,6 @@
 //! `bench [--no-write]`: times of the proved library beside the original's text, and of its sheets
-//! beside a plain writer. It prints a table and writes the same as docs/bench.md and docs/bench.svg.
+//! beside a plain writer and a plain reader. It prints a table and writes the same as docs/bench.md
+//! and docs/bench.svg.
 //!
 //! Exit 0: every limit is kept. 1: one is not. 2: nothing was measured, or the pages were not
 //! written; the message says why.

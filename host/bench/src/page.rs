@@ -13,7 +13,7 @@ const INTRODUCTION: &str = "\
 # Times
 
 One call of ours beside one of the original (vsss-rs 6.0.1) on the same input, both optimised; \
-for sheets, which the original has not, beside a plain writer in Rust. \
+for sheets, which the original has not, beside a plain writer and a plain reader in Rust. \
 The ratio is ours over the other's. L is the length of the secret in bytes, t the threshold, \
 n the count of rows.
 
@@ -48,6 +48,9 @@ itself, and reads its coefficients from a script of words in place of a random s
 These are in its times.
 - The plain writer ([sheet.rs](../host/bench/src/cases/sheet.rs)) pushes digits from a table, byte by \
 byte, onto a vector that has the room already. It judges nothing and hides nothing.
+- The plain reader ([line_reader.rs](../host/oracle/src/line_reader.rs)) takes each line apart at its \
+tabs and pushes the value of two digits at a time onto a vector that has the room already. It judges \
+all that ours does, and gives the same line where it refuses.
 - A megabyte is a million bytes.
 "
     )

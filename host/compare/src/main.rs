@@ -1,6 +1,6 @@
 //! `compare [CALLS [SEED]]`: the proved library beside the original's text, where that is at hand, and beside a plain
 //! reading of the rules; by default on a million random calls, with all short and boundary calls. Then its sheets beside
-//! a plain reading, on as many random calls and all boundary ones.
+//! a plain reading, written and read, each on as many random calls and all boundary ones.
 
 use compare::Library;
 
@@ -20,6 +20,9 @@ fn main() {
     println!("{sharing}");
     let sheets = oracle::compare::sheets::run(vsss::entry::write_sheet, calls, seed);
     println!("{sheets}");
+    let reading = oracle::compare::reading::run(vsss::entry::read_sheet, calls, seed);
+    println!("{reading}");
     sharing.assert_clean();
     sheets.assert_clean();
+    reading.assert_clean();
 }

@@ -13,6 +13,7 @@ pub enum Command {
     Split(Split),
     Combine(Combine),
     Sheet(Sheet),
+    Read(Read),
 }
 
 #[derive(Debug, PartialEq)]
@@ -30,7 +31,8 @@ pub struct Split {
 pub struct Combine {
     pub out: PathBuf,
     pub force: bool,
-    pub rows: Vec<PathBuf>,
+    /// Row files and sheets, one or more.
+    pub files: Vec<PathBuf>,
 }
 
 #[derive(Debug, PartialEq)]
@@ -43,13 +45,24 @@ pub struct Sheet {
     pub rows: Vec<PathBuf>,
 }
 
+#[derive(Debug, PartialEq)]
+pub struct Read {
+    pub out: PathBuf,
+    pub force: bool,
+    pub sheet: PathBuf,
+}
+
 const SPLIT: &str = "desk split";
 const COMBINE: &str = "desk combine";
 const SHEET: &str = "desk sheet";
+const READ: &str = "desk read";
 
 pub fn parse(mut words: Vec<OsString>) -> Result<Command, Failure> {
     if words.is_empty() {
-        return Err(usage("desk", "say what to do: split, combine or sheet"));
+        return Err(usage(
+            "desk",
+            "say what to do: split, combine, sheet or read",
+        ));
     }
     let command = words.remove(0);
     match command.to_str() {
@@ -57,11 +70,12 @@ pub fn parse(mut words: Vec<OsString>) -> Result<Command, Failure> {
         Some("split") => parse_split(words),
         Some("combine") => parse_combine(words),
         Some("sheet") => parse_sheet(words),
+        Some("read") => parse_read(words),
         _ => {
             let name = command.to_string_lossy();
             Err(usage(
                 "desk",
-                format!("there is no command {name}; there are split, combine and sheet"),
+                format!("there is no command {name}; there are split, combine, sheet and read"),
             ))
         }
     }
@@ -94,11 +108,11 @@ fn parse_combine(words: Vec<OsString>) -> Result<Command, Failure> {
     }
     let mut line = Line::sort(COMBINE, words, &["--out"])?;
     let out = line.need_path("--out")?;
-    line.need_rows("name the row files to combine")?;
+    line.need_files("FILE", "name the row files and sheets to combine")?;
     Ok(Command::Combine(Combine {
         out,
         force: line.force,
-        rows: line.files,
+        files: line.files,
     }))
 }
 
@@ -109,12 +123,26 @@ fn parse_sheet(words: Vec<OsString>) -> Result<Command, Failure> {
     let mut line = Line::sort(SHEET, words, &["--threshold", "--out"])?;
     let threshold = line.need_threshold()?;
     let out = line.take_path("--out")?;
-    line.need_rows("name the row files to write")?;
+    line.need_files("ROWFILE", "name the row files to write")?;
     Ok(Command::Sheet(Sheet {
         threshold,
         out,
         force: line.force,
         rows: line.files,
+    }))
+}
+
+fn parse_read(words: Vec<OsString>) -> Result<Command, Failure> {
+    if asks_for_help(&words) {
+        return Ok(Command::Help(help::READ));
+    }
+    let mut line = Line::sort(READ, words, &["--out"])?;
+    let out = line.need_path("--out")?;
+    let sheet = line.only_file("SHEETFILE")?;
+    Ok(Command::Read(Read {
+        out,
+        force: line.force,
+        sheet,
     }))
 }
 
@@ -205,9 +233,9 @@ impl Line {
         }
     }
 
-    fn need_rows(&self, advice: &str) -> Result<(), Failure> {
+    fn need_files(&self, what: &str, advice: &str) -> Result<(), Failure> {
         if self.files.is_empty() {
-            return Err(self.wrong(format!("no ROWFILE is named; {advice}")));
+            return Err(self.wrong(format!("no {what} is named; {advice}")));
         }
         Ok(())
     }
@@ -320,7 +348,7 @@ mod tests {
         let expected = Combine {
             out: "key.bin".into(),
             force: false,
-            rows: vec!["1.row".into(), "--out".into()],
+            files: vec!["1.row".into(), "--out".into()],
         };
         assert_eq!(
             parsed("combine --out key.bin 1.row -- --out"),
@@ -349,6 +377,19 @@ mod tests {
     }
 
     #[test]
+    fn a_read_in_full() {
+        let expected = |force| {
+            Ok(Command::Read(Read {
+                out: "rows".into(),
+                force,
+                sheet: "a.sheet".into(),
+            }))
+        };
+        assert_eq!(parsed("read --out rows a.sheet"), expected(false));
+        assert_eq!(parsed("read a.sheet --force --out=rows"), expected(true));
+    }
+
+    #[test]
     fn help_is_given_wherever_it_is_asked_for() {
         assert_eq!(parsed("--help"), Ok(Command::Help(help::DESK)));
         assert_eq!(parsed("-h"), Ok(Command::Help(help::DESK)));
@@ -358,11 +399,12 @@ mod tests {
         );
         assert_eq!(parsed("combine -h"), Ok(Command::Help(help::COMBINE)));
         assert_eq!(parsed("sheet x --help"), Ok(Command::Help(help::SHEET)));
+        assert_eq!(parsed("read --help x"), Ok(Command::Help(help::READ)));
     }
 
     #[test]
     fn what_is_missing_is_named() {
-        assert!(wrong("").contains("split, combine or sheet"));
+        assert!(wrong("").contains("split, combine, sheet or read"));
         assert!(wrong("join").contains("no command join"));
         assert!(wrong("split --ids 1,2 --out d k").contains("--threshold is missing"));
         assert!(wrong("split --threshold 2 --out d k").contains("--ids is missing"));
@@ -370,11 +412,13 @@ mod tests {
         assert!(wrong("split --threshold 2 --ids 1,2 --out d").contains("KEYFILE is missing"));
         assert!(wrong("split --threshold 2 --ids 1,2 --out= k").contains("--out is empty"));
         assert!(wrong("combine 1.row 2.row").contains("--out is missing"));
-        assert!(wrong("combine --out k").contains("no ROWFILE"));
+        assert!(wrong("combine --out k").contains("no FILE"));
         assert!(wrong("combine 1.row --out").contains("--out needs a value"));
         assert!(wrong("sheet 1.row").contains("--threshold is missing"));
         assert!(wrong("sheet --threshold 2").contains("no ROWFILE"));
         assert!(wrong("sheet --threshold 2 --out= 1.row").contains("--out is empty"));
+        assert!(wrong("read a.sheet").contains("--out is missing"));
+        assert!(wrong("read --out d").contains("SHEETFILE is missing"));
     }
 
     #[test]
@@ -382,6 +426,8 @@ mod tests {
         assert!(wrong("combine --out a --out b 1.row").contains("--out is given twice"));
         assert!(wrong("combine --threshold 2 --out a 1.row").contains("no option --threshold"));
         assert!(wrong("split --threshold 2 --ids 1,2 --out d k l").contains("2 are named"));
+        assert!(wrong("read --out d a b").contains("one SHEETFILE is wanted"));
+        assert!(wrong("read --threshold 2 --out d a").contains("no option --threshold"));
         assert!(wrong("split -t 2 --ids 1,2 --out d k").contains("no option -t"));
     }
 

@@ -44,23 +44,33 @@ fn read_device(path: &Path, count: usize) -> Result<Secret, Failure> {
     Ok(bytes)
 }
 
+/// There is room for so much at first. It is doubled while more comes: most files are short, however
+/// long the longest may be.
+const FIRST_ROOM: usize = 8192;
+
 /// Reads straight into buffers that wipe themselves; a reader with a buffer of its own would leave
 /// a copy.
 fn read_up_to(source: &mut impl Read, limit: usize) -> io::Result<Secret> {
-    let mut buffer = Secret::zeroed(limit);
+    let mut buffer = Secret::zeroed(limit.min(FIRST_ROOM));
     let mut filled = 0;
     while filled < limit {
+        if filled == buffer.len() {
+            buffer = lengthened(&buffer, limit.min(2 * filled));
+        }
         match source.read(&mut buffer[filled..]) {
-            Ok(0) => break,
+            Ok(0) => return Ok(Secret::copy_of(&buffer[..filled])),
             Ok(count) => filled += count,
             Err(error) if error.kind() == ErrorKind::Interrupted => {}
             Err(error) => return Err(error),
         }
     }
-    if filled == limit {
-        return Ok(buffer);
-    }
-    Ok(Secret::copy_of(&buffer[..filled]))
+    Ok(buffer)
+}
+
+fn lengthened(bytes: &[u8], len: usize) -> Secret {
+    let mut longer = Secret::zeroed(len);
+    longer[..bytes.len()].copy_from_slice(bytes);
+    longer
 }
 
 #[cfg(test)]
@@ -98,6 +108,21 @@ mod tests {
         assert_eq!(read_up_to(&mut slow(), 5).unwrap()[..], [5, 4, 3, 2, 1]);
         assert_eq!(read_up_to(&mut slow(), 2).unwrap()[..], [5, 4]);
         assert_eq!(read_up_to(&mut slow(), 0).unwrap()[..], []);
+    }
+
+    #[test]
+    fn room_is_made_as_bytes_come() {
+        let bytes: Vec<u8> = (0..3 * FIRST_ROOM).map(|i| (i / 7) as u8).collect();
+        for limit in [
+            FIRST_ROOM - 1,
+            FIRST_ROOM,
+            FIRST_ROOM + 1,
+            2 * FIRST_ROOM,
+            usize::MAX,
+        ] {
+            let read = read_up_to(&mut &bytes[..], limit).unwrap();
+            assert!(read[..] == bytes[..limit.min(bytes.len())], "{limit}");
+        }
     }
 
     #[test]

@@ -1,5 +1,5 @@
-//! The desk: splits a key file into row files, combines them into the key, and writes them as
-//! sheets.
+//! The desk: splits a key file into row files, combines them into the key, writes them as sheets
+//! and reads sheets.
 //!
 //! `desk --help` says how it is used. Key, rows, sheets and coefficients are held in
 //! [`vsss::Secret`] only, which wipes itself; hence `main` returns its exit code and nothing ends
@@ -9,12 +9,15 @@
 
 mod args;
 mod combine;
+mod damage;
 mod failure;
 mod help;
 mod input;
 mod output;
+mod read;
 mod rows;
 mod sheet;
+mod sheets;
 mod split;
 mod words;
 
@@ -45,6 +48,7 @@ fn run(words: Vec<OsString>) -> Result<(), Failure> {
         Command::Split(request) => report(&split::run(&request)?),
         Command::Combine(request) => report(&combine::run(&request)?),
         Command::Sheet(request) => report(&sheet::run(&request)?),
+        Command::Read(request) => report(&read::run(&request)?),
     }
     Ok(())
 }

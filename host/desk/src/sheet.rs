@@ -7,7 +7,7 @@ use vsss::Refusal;
 use crate::args::Sheet;
 use crate::failure::Failure;
 use crate::output::{to_standard_output, Delivery};
-use crate::rows::{self, RowFiles};
+use crate::rows::{self, Rows};
 use crate::words::counted;
 
 /// Writes the row files as a sheet; gives the report, which is empty where the sheet itself is
@@ -16,11 +16,11 @@ pub fn run(request: &Sheet) -> Result<String, Failure> {
     if let Some(out) = &request.out {
         rows::spare(&request.rows, out, "desk sheet", "the sheet")?;
     }
-    let files = RowFiles::read(&request.rows)?;
+    let rows = Rows::read(&request.rows)?;
     let sheet =
-        vsss::sheet(request.threshold, &files.rows).map_err(|refusal| Failure::Refused {
+        vsss::sheet(request.threshold, &rows.contents).map_err(|refusal| Failure::Refused {
             refusal,
-            message: explain(request.threshold, &files, refusal),
+            message: explain(request.threshold, &rows, refusal),
         })?;
     match &request.out {
         None => {
@@ -31,12 +31,12 @@ pub fn run(request: &Sheet) -> Result<String, Failure> {
             let mut delivery = Delivery::to(&[out], request.force)?;
             delivery.add(out, &sheet)?;
             delivery.publish()?;
-            Ok(report(out, request.threshold, files.rows.len()))
+            Ok(report(out, request.threshold, rows.contents.len()))
         }
     }
 }
 
-fn explain(threshold: usize, files: &RowFiles, refusal: Refusal) -> String {
+fn explain(threshold: usize, rows: &Rows, refusal: Refusal) -> String {
     match refusal {
         Refusal::InvalidSizeRequest => {
             format!("--threshold {threshold} is too high; no split has one over 255")
@@ -45,7 +45,7 @@ fn explain(threshold: usize, files: &RowFiles, refusal: Refusal) -> String {
         Refusal::SharingMinThreshold => {
             format!("--threshold {threshold} is too low; no split has one under 2")
         }
-        other => files.explain(other),
+        other => rows.explain(other),
     }
 }
 

@@ -7,25 +7,21 @@ use vsss::{Refusal, Row, Secret, MAX_SECRET};
 use crate::args::Split;
 use crate::failure::Failure;
 use crate::input::{random_bytes, read_at_most};
-use crate::output::{same_file, Delivery, Folder};
+use crate::output::same_file;
+use crate::rows::{deliver, places};
 use crate::words::{bytes, grouped};
 
 /// Splits the key and writes the row files; gives the report.
 pub fn run(request: &Split) -> Result<String, Failure> {
-    let places = row_places(request);
+    let places = places(&request.out, request.ids.iter().copied());
     spare_the_sources(request, &places)?;
     no_key_as_coefficients(request)?;
     // One byte more than the longest key shows one that is too long.
     let key = read_at_most(&request.key, MAX_SECRET + 1)?;
     judge(request, &key)?;
     let rows = split(request, &key)?;
-    deliver(request, &places, &rows)?;
-    Ok(report(request, &places))
-}
-
-fn row_places(request: &Split) -> Vec<PathBuf> {
-    let place = |id: &u8| request.out.join(format!("{id}.row"));
-    request.ids.iter().map(place).collect()
+    let wrote = deliver(&request.out, &places, &rows, request.force)?;
+    Ok(wrote + &report(request.threshold, rows.len()))
 }
 
 /// With --force a row could otherwise take the place of the key itself.
@@ -105,18 +101,6 @@ fn too_few(file: &Path, got: usize, needed: usize) -> String {
     format!("{file} has {got}, and {needed} are needed: key bytes times (threshold - 1)")
 }
 
-fn deliver(request: &Split, places: &[PathBuf], rows: &[Row]) -> Result<(), Failure> {
-    // Before the files, so that it is dropped behind them: only an empty folder can be removed.
-    let folder = Folder::open(&request.out)?;
-    let mut delivery = Delivery::to(places, request.force)?;
-    for (place, row) in places.iter().zip(rows) {
-        delivery.add(place, row.as_bytes())?;
-    }
-    delivery.publish()?;
-    folder.keep();
-    Ok(())
-}
-
 fn explain(request: &Split, refusal: Refusal) -> String {
     let Split {
         threshold,
@@ -148,16 +132,10 @@ fn explain(request: &Split, refusal: Refusal) -> String {
     }
 }
 
-fn report(request: &Split, places: &[PathBuf]) -> String {
-    let (threshold, count) = (request.threshold, places.len());
-    let mut text = String::new();
-    for place in places {
-        text += &format!("wrote {}\n", place.display());
-    }
-    text += &format!(
+fn report(threshold: usize, count: usize) -> String {
+    format!(
         "Any {threshold} of these {count} rows give the key back; fewer say nothing of it.\n\
          Note the number {threshold} with the rows: combine cannot know it, and with fewer rows it\n\
          gives a WRONG key without a warning.\n"
-    );
-    text
+    )
 }

@@ -116,6 +116,28 @@ impl SheetCall {
     }
 }
 
+/// A text to read as a sheet.
+#[derive(Clone, Debug, PartialEq, Eq)]
+pub struct ReadCall {
+    pub text: Vec<u8>,
+    /// Length of the output that is lent for the numbers of the first line.
+    pub head: usize,
+    /// Length of the output that is lent for the rows.
+    pub room: usize,
+}
+
+impl ReadCall {
+    /// With room enough for every sheet of that length, and not much more: two characters for each
+    /// byte of a row, and those around them.
+    pub fn of_text(text: Vec<u8>) -> Self {
+        ReadCall {
+            head: 12,
+            room: text.len() / 2,
+            text,
+        }
+    }
+}
+
 /// At most this many bytes of a buffer are shown in a message.
 const SHOWN: usize = 24;
 
@@ -169,6 +191,20 @@ impl fmt::Display for SheetCall {
             self.threshold,
             Hex(&self.rows),
             Hex(&self.lengths),
+            self.room
+        )
+    }
+}
+
+impl fmt::Display for ReadCall {
+    fn fmt(&self, f: &mut fmt::Formatter<'_>) -> fmt::Result {
+        let shown = &self.text[..self.text.len().min(4 * SHOWN)];
+        write!(
+            f,
+            "read \"{}\" of {} head {} room {}",
+            shown.escape_ascii(),
+            self.text.len(),
+            self.head,
             self.room
         )
     }

@@ -10,12 +10,14 @@
 //! [`compare::run`] puts an implementation of [`Sharing`] beside all that is at hand.
 //!
 //! The sheets of document 02 are not the original's: there is a plain reading of them, with a
-//! stored sample of its own, and [`compare::sheets::run`].
+//! stored sample of its own, [`compare::sheets::run`] for a writer of them and
+//! [`compare::reading::run`] for a reader.
 
 mod calls;
 pub mod compare;
 pub mod generate;
 mod guarded;
+pub mod line_reader;
 #[cfg(have_original)]
 pub mod original;
 mod outcome;
@@ -26,7 +28,7 @@ pub mod sample_maker;
 mod sharing;
 pub mod sheet_sample;
 
-pub use calls::{CombineCall, SheetCall, SplitCall};
+pub use calls::{CombineCall, ReadCall, SheetCall, SplitCall};
 pub use guarded::Guarded;
 pub use outcome::Outcome;
 pub use random::Random;

@@ -1,8 +1,8 @@
 //! The calls into the proved library, made safe, with the bare 64-bit word that comes back.
 //!
 //! [`decode`](crate::decode) reads the word. Most callers want
-//! [`split_into`](crate::split_into), [`combine_into`](crate::combine_into) and
-//! [`sheet_into`](crate::sheet_into) instead.
+//! [`split_into`](crate::split_into), [`combine_into`](crate::combine_into),
+//! [`sheet_into`](crate::sheet_into) and [`read_sheet_into`](crate::read_sheet_into) instead.
 
 mod c {
     extern "C" {
@@ -34,6 +34,15 @@ mod c {
             rows_len: usize,
             lengths: *const u8,
             lengths_len: usize,
+            out: *mut u8,
+            out_len: usize,
+        ) -> u64;
+
+        pub fn vsss_read_sheet(
+            text: *const u8,
+            text_len: usize,
+            head: *mut u8,
+            head_len: usize,
             out: *mut u8,
             out_len: usize,
         ) -> u64;
@@ -97,6 +106,24 @@ pub fn write_sheet(threshold: usize, rows: &[u8], lengths: &[u8], out: &mut [u8]
             rows.len(),
             lengths.as_ptr(),
             lengths.len(),
+            out.as_mut_ptr(),
+            out.len(),
+        )
+    }
+}
+
+/// Reads a sheet of text, and writes its rows one after another from the start of `out`. Its
+/// threshold, its count of rows and that of a row's values go to the start of `head`, four bytes
+/// each, least first.
+#[allow(unsafe_code)]
+pub fn read_sheet(text: &[u8], head: &mut [u8], out: &mut [u8]) -> u64 {
+    // SAFETY: as above, and `head` is lent exclusively too.
+    unsafe {
+        c::vsss_read_sheet(
+            text.as_ptr(),
+            text.len(),
+            head.as_mut_ptr(),
+            head.len(),
             out.as_mut_ptr(),
             out.len(),
         )

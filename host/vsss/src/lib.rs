@@ -36,17 +36,26 @@
 //! assert!(refusal.to_string().starts_with("row 2 has identifier 0"));
 //! ```
 //!
-//! Rows can be kept on paper, as lines of text; a holder may print his own alone:
+//! Rows can be kept on paper, as lines of text; a holder may print his own alone. The text is read
+//! back into the same rows and threshold, and every other text is refused by its line:
 //!
 //! ```
-//! let sheet = vsss::sheet(2, &[[0x01, 0x2f]])?;
-//! assert_eq!(&sheet[..], b"seal\t2\t1\t1\nrow\t1\t2f\n");
+//! let text = vsss::sheet(2, &[[0x01, 0x2f]])?;
+//! assert_eq!(&text[..], b"seal\t2\t1\t1\nrow\t1\t2f\n");
+//!
+//! let sheet = vsss::read_sheet(&text)?;
+//! assert_eq!(sheet.threshold, 2);
+//! assert_eq!(sheet.rows[0].as_bytes(), [0x01, 0x2f]);
+//!
+//! let refusal = vsss::read_sheet(b"seal\t2\t1\t1\nrow\t1\t2F\n").unwrap_err();
+//! assert_eq!(refusal, vsss::Refusal::InvalidSheet { line: 1 });
 //! # Ok::<(), vsss::Refusal>(())
 //! ```
 //!
 //! | on slices that you lend | owned |
 //! |---|---|
-//! | [`split_into`], [`combine_into`], [`sheet_into`] | [`split`], [`combine`], [`sheet`], [`Row`], [`Secret`] |
+//! | [`split_into`], [`combine_into`] | [`split`], [`combine`], [`Row`], [`Secret`] |
+//! | [`sheet_into`], [`read_sheet_into`] | [`sheet`], [`read_sheet`], [`Sheet`] |
 //!
 //! [`entry`] has the calls themselves, with the bare word that comes back.
 
@@ -55,11 +64,13 @@
 
 mod crossing;
 pub mod entry;
+mod reading;
 mod refusal;
 mod sharing;
 mod sheet;
 mod wipe;
 
+pub use reading::{read_sheet, read_sheet_into, rows_room, Sheet, SheetHead};
 pub use refusal::{decode, Refusal};
 pub use sharing::{coefficients_needed, combine, combine_into, split, split_into, Row};
 pub use sheet::{sheet, sheet_into, sheet_room};

@@ -3,9 +3,11 @@
 use std::error::Error;
 use std::fmt;
 
+use crate::MAX_SHARES;
+
 /// Why a call was refused. Nothing that was lent has changed then.
 ///
-/// The cases are in the order of their numbers, 1 to 13. Places count from 0.
+/// The cases are in the order of their numbers, 1 to 14. Places count from 0.
 ///
 /// ```
 /// use vsss::Refusal;
@@ -49,6 +51,12 @@ pub enum Refusal {
     NoRoom,
     /// 13: the row lengths do not sum to the stored bytes, or there are more than 65,535.
     RowLengths,
+    /// 14: a text to be read is no sheet.
+    InvalidSheet {
+        /// The first line with which the text can no longer be continued to a sheet; where every
+        /// complete line can, the one behind them.
+        line: usize,
+    },
     /// The library answered with a word that has no meaning: archive and wrapper do not belong
     /// together. It has no number.
     UnknownWord(u64),
@@ -80,6 +88,7 @@ impl Refusal {
             Refusal::CoefficientCount => (11, "CoefficientCount"),
             Refusal::NoRoom => (12, "NoRoom"),
             Refusal::RowLengths => (13, "RowLengths"),
+            Refusal::InvalidSheet { .. } => (14, "InvalidSheet"),
             Refusal::UnknownWord(_) => (0, "UnknownWord"),
         }
     }
@@ -126,11 +135,22 @@ impl fmt::Display for Refusal {
             ),
             Refusal::NoRoom => f.write_str(
                 "the output is too short; split needs the row count times the secret's length plus 1, \
-                 combine a row's length less 1, sheet at most what sheet_room says",
+                 combine a row's length less 1, sheet at most what sheet_room says, \
+                 and reading one what rows_room says",
             ),
             Refusal::RowLengths => f.write_str(
                 "the row lengths do not add up to the bytes given as rows, or there are more than \
                  65,535 of them",
+            ),
+            Refusal::InvalidSheet { line: 0 } => f.write_str(
+                "line 0 of the text is not that of a sheet, or not whole: 'seal', the threshold, \
+                 the count of rows and that of a row's values, parted by tabs and ended by a line feed",
+            ),
+            Refusal::InvalidSheet { line } => write!(
+                f,
+                "line {line} of the text, counting from 0, is not the row that the sheet has there, \
+                 not whole, or one too many: a row is 'row', an identifier that no other has, and \
+                 its values in lower-case hex, parted by tabs and ended by a line feed"
             ),
             Refusal::UnknownWord(word) => write!(
                 f,
@@ -178,6 +198,7 @@ pub fn decode(word: u64) -> Result<usize, Refusal> {
         (11, 0, 0) => Refusal::CoefficientCount,
         (12, 0, 0) => Refusal::NoRoom,
         (13, 0, 0) => Refusal::RowLengths,
+        (14, line, 0) if line <= MAX_SHARES + 1 => Refusal::InvalidSheet { line },
         _ => Refusal::UnknownWord(word),
     };
     Err(refusal)
@@ -220,7 +241,7 @@ mod tests {
     }
 
     #[test]
-    fn the_numbers_are_1_to_13() {
+    fn the_numbers_are_1_to_14() {
         let mut numbers: Vec<u8> = WITHOUT_PLACES.iter().map(Refusal::number).collect();
         numbers.push(Refusal::SharingInvalidIdentifier { place: 0 }.number());
         numbers.push(
@@ -230,8 +251,9 @@ mod tests {
             }
             .number(),
         );
+        numbers.push(Refusal::InvalidSheet { line: 0 }.number());
         numbers.sort();
-        assert_eq!(numbers, (1..=13).collect::<Vec<u8>>());
+        assert_eq!(numbers, (1..=14).collect::<Vec<u8>>());
     }
 
     #[test]
@@ -251,18 +273,27 @@ mod tests {
                 second: 65_534
             })
         );
+        // The most lines are those of 255 rows, the first one, and one too many.
+        for line in [0, 1, 255, 256] {
+            let refusal = Refusal::InvalidSheet {
+                line: line as usize,
+            };
+            assert_eq!(decode(word(14, line, 0)), Err(refusal));
+        }
     }
 
     #[test]
     fn a_word_without_a_meaning_is_a_case_of_its_own() {
         let words = [
-            word(14, 0, 0),
+            word(15, 0, 0),
             word(1, 1, 0),
             word(13, 0, 1),
             word(6, 0, 1),
             word(7, 0, 0),
             word(7, 3, 3),
             word(7, 4, 3),
+            word(14, 257, 0),
+            word(14, 1, 1),
             1 << 63,
             u64::MAX,
         ];
@@ -287,5 +318,12 @@ mod tests {
             twice.to_string(),
             "rows 0 and 3 carry the same identifier; give each row once"
         );
+        for line in [0, 1, 256] {
+            let said = Refusal::InvalidSheet { line }.to_string();
+            assert!(
+                said.starts_with(&format!("line {line} of the text")),
+                "{said}"
+            );
+        }
     }
 }

@@ -64,6 +64,12 @@ pub struct Row {
 }
 
 impl Row {
+    /// Rows of so many bytes each, which lie one after another.
+    pub(crate) fn each_of(flat: &[u8], row_len: usize) -> Vec<Row> {
+        let rows = flat.chunks_exact(row_len).map(Secret::copy_of);
+        rows.map(|bytes| Row { bytes }).collect()
+    }
+
     /// The identifier, 1 to 255.
     pub fn identifier(&self) -> u8 {
         self.bytes[0]
@@ -116,12 +122,7 @@ pub fn split(
     let row_len = secret.len().min(MAX_SECRET) + 1;
     let mut flat = Secret::zeroed(ids.len().min(MAX_SHARES) * row_len);
     let written = split_into(threshold, ids.len(), secret, ids, coefficients, &mut flat)?;
-    let rows = flat[..written].chunks_exact(row_len);
-    Ok(rows
-        .map(|row| Row {
-            bytes: Secret::copy_of(row),
-        })
-        .collect())
+    Ok(Row::each_of(&flat[..written], row_len))
 }
 
 /// Combines rows, each an identifier and its values, into the secret.

@@ -58,8 +58,8 @@ fn succeeds(command: &mut Command) -> Output {
 }
 
 #[test]
-fn a_c_caller_gets_the_rows_the_secret_the_sheet_and_the_refusals() {
+fn a_c_caller_gets_the_rows_the_secret_the_sheets_and_the_refusals() {
     let output = succeeds(&mut Command::new(compile_caller()));
     let said = String::from_utf8_lossy(&output.stdout);
-    assert_eq!(said.lines().count(), 16, "{said}");
+    assert_eq!(said.lines().count(), 22, "{said}");
 }

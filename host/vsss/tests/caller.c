@@ -1,5 +1,5 @@
-/* Calls the library from C: document 01's cases G and H, the sheet of G, and refusals with their
- * places. */
+/* Calls the library from C: document 01's cases G and H, the sheet of G there and back, and refusals
+ * with their places. */
 #include <stdio.h>
 #include <string.h>
 
@@ -79,6 +79,33 @@ static void sheet_of_doubled_rows(void) {
     expect(out[0] == 0xee, "and nothing is written of it");
 }
 
+static const char own_sheet[] = "seal\t2\t1\t1\nrow\t3\t25\n";
+
+static void read_a_sheet(void) {
+    const size_t length = sizeof own_sheet - 1;
+    const uint8_t expected_head[] = {2, 0, 0, 0, 1, 0, 0, 0, 1, 0, 0, 0, 0xee};
+    uint8_t head[VSSS_HEAD_ROOM + 1], out[VSSS_ROWS_ROOM(sizeof own_sheet)];
+    memset(head, 0xee, sizeof head);
+    memset(out, 0xee, sizeof out);
+    uint64_t word = vsss_read_sheet((const uint8_t *)own_sheet, length, head, sizeof head,
+                                    out, sizeof out);
+    expect(word == 2, "a sheet is read into 2 bytes");
+    expect(out[0] == 3 && out[1] == 0x25 && out[2] == 0xee, "its row, and nothing behind it");
+    expect(memcmp(head, expected_head, sizeof head) == 0, "and its head, and nothing behind it");
+}
+
+static void read_a_text_cut_short(void) {
+    const size_t length = sizeof own_sheet - 2;
+    uint8_t head[VSSS_HEAD_ROOM], out[VSSS_ROWS_ROOM(sizeof own_sheet)];
+    memset(head, 0xee, sizeof head);
+    memset(out, 0xee, sizeof out);
+    uint64_t word = vsss_read_sheet((const uint8_t *)own_sheet, length, head, sizeof head,
+                                    out, sizeof out);
+    expect(VSSS_NUMBER(word) == VSSS_INVALID_SHEET, "without its last line feed it is no sheet");
+    expect(VSSS_FIRST_PLACE(word) == 1 && VSSS_SECOND_PLACE(word) == 0, "at line 1");
+    expect(head[0] == 0xee && out[0] == 0xee, "and nothing is written of it");
+}
+
 int main(void) {
     split_case_g();
     combine_case_h();
@@ -86,5 +113,7 @@ int main(void) {
     split_for_a_zero();
     sheet_of_case_g();
     sheet_of_doubled_rows();
+    read_a_sheet();
+    read_a_text_cut_short();
     return failures != 0;
 }

@@ -1,9 +1,9 @@
 //! The library through the safe functions: values, bounds and refusals of document 01, and of
-//! document 02's sheets.
+//! document 02's sheets, written and read.
 
 use vsss::{
-    combine, combine_into, sheet, sheet_into, sheet_room, split, split_into, Refusal, Row,
-    MAX_SECRET, MAX_SHARES,
+    combine, combine_into, entry, read_sheet, read_sheet_into, rows_room, sheet, sheet_into,
+    sheet_room, split, split_into, Refusal, Row, MAX_SECRET, MAX_SHARES,
 };
 
 const LENT: u8 = 0xee;
@@ -322,4 +322,118 @@ fn a_sheet_is_refused_in_its_order_and_changes_nothing() {
         sheet::<&[u8]>(2, &[]).unwrap_err(),
         Refusal::SharingMinThreshold
     );
+}
+
+const EXAMPLE: &str = "seal\t2\t3\t1\nrow\t1\t2f\nrow\t2\t20\nrow\t3\t25\n";
+
+fn line_refused(text: &str) -> usize {
+    match read_sheet(text.as_bytes()) {
+        Err(Refusal::InvalidSheet { line }) => line,
+        other => panic!("{text:?} gives {other:?}"),
+    }
+}
+
+#[test]
+fn document_02s_sheet_is_read() {
+    let sheet = read_sheet(EXAMPLE.as_bytes()).unwrap();
+    assert_eq!(sheet.threshold, 2);
+    assert_eq!(bytes_of(&sheet.rows), [[1, 0x2f], [2, 0x20], [3, 0x25]]);
+    assert_eq!(combine(&sheet.rows[1..]).unwrap()[..], [0x2a]);
+}
+
+#[test]
+fn a_text_is_refused_at_the_first_line_that_no_sheet_has_there() {
+    let changed = |from: &str, to: &str| {
+        assert!(EXAMPLE.contains(from));
+        line_refused(&EXAMPLE.replacen(from, to, 1))
+    };
+    assert_eq!(line_refused(""), 0);
+    assert_eq!(changed("seal", "Seal"), 0);
+    assert_eq!(changed("seal\t2", "seal\t1"), 0);
+    assert_eq!(changed("seal\t2", "seal\t02"), 0);
+    assert_eq!(changed("seal\t2", "seal\t256"), 0);
+    assert_eq!(changed("\t3\t", "\t0\t"), 0);
+    assert_eq!(changed("\t3\t", "\t256\t"), 0);
+    assert_eq!(changed("\t1\n", "\t0\n"), 0);
+    assert_eq!(changed("\t1\n", &format!("\t{}\n", MAX_SECRET + 1)), 0);
+    assert_eq!(changed("\n", "\r\n"), 0);
+    // Such a sheet can be, with longer rows.
+    assert_eq!(changed("\t1\n", &format!("\t{MAX_SECRET}\n")), 1);
+    assert_eq!(changed("row", "Row"), 1);
+    assert_eq!(changed("row\t2", "row 2"), 2);
+    assert_eq!(changed("row\t2", "row\t0"), 2);
+    assert_eq!(changed("row\t2", "row\t256"), 2);
+    // A repeat is seen where the identifier stands again.
+    assert_eq!(changed("row\t1", "row\t3"), 3);
+    assert_eq!(changed("2f", "2F"), 1);
+    assert_eq!(changed("2f", "2f0"), 1);
+    assert_eq!(changed("2f", "2"), 1);
+    // Too few rows, and more behind the last.
+    assert_eq!(changed("\t3\t", "\t4\t"), 4);
+    assert_eq!(changed("\t3\t", "\t2\t"), 3);
+    assert_eq!(line_refused(&format!("{EXAMPLE}\n")), 4);
+    assert_eq!(line_refused(EXAMPLE.trim_end()), 3);
+}
+
+#[test]
+fn what_is_written_is_read_and_what_is_read_is_written() {
+    for (threshold, ids, values) in [
+        (2, vec![9], 1),
+        (10, vec![255, 10, 1], 16),
+        (MAX_SHARES, (1..=255).rev().collect(), 3),
+        (128, (1..=255).collect(), MAX_SECRET),
+    ] {
+        let row = |&id: &u8| [vec![id], some_bytes(values, id.into())].concat();
+        let rows: Vec<Vec<u8>> = ids.iter().map(row).collect();
+        let text = sheet(threshold, &rows).unwrap();
+        let read = read_sheet(&text).unwrap();
+        assert_eq!(read.threshold, threshold);
+        assert!(bytes_of(&read.rows) == rows, "other rows");
+        let again = sheet(read.threshold, &read.rows).unwrap();
+        assert!(again[..] == text[..], "another text");
+    }
+}
+
+#[test]
+fn reading_takes_the_room_of_the_rows_and_no_more() {
+    let lent = |room| {
+        let mut out = vec![LENT; room];
+        let head = read_sheet_into(EXAMPLE.as_bytes(), &mut out);
+        let head = head.map(|head| (head.threshold, head.rows, head.values));
+        (head, out)
+    };
+    let rows = [1, 0x2f, 2, 0x20, 3, 0x25];
+    assert_eq!(lent(6), (Ok((2, 3, 1)), rows.to_vec()));
+    assert_eq!(lent(8), (Ok((2, 3, 1)), [&rows[..], &[LENT; 2]].concat()));
+    assert_eq!(lent(5), (Err(Refusal::NoRoom), vec![LENT; 5]));
+    assert!(rows_room(EXAMPLE.len()) >= 6);
+    // What is no sheet is that, whatever the room.
+    let no_sheet = read_sheet_into(&EXAMPLE.as_bytes()[1..], &mut []);
+    assert_eq!(no_sheet, Err(Refusal::InvalidSheet { line: 0 }));
+}
+
+#[test]
+fn reading_takes_the_room_of_the_head_and_no_more() {
+    let lent = |head_room| {
+        let mut head = vec![LENT; head_room];
+        let mut out = [LENT; 6];
+        let word = entry::read_sheet(EXAMPLE.as_bytes(), &mut head, &mut out);
+        (vsss::decode(word), head, out)
+    };
+    let (answer, head, _) = lent(13);
+    assert_eq!(answer, Ok(6));
+    assert_eq!(head, [2, 0, 0, 0, 3, 0, 0, 0, 1, 0, 0, 0, LENT]);
+    assert_eq!(lent(12).0, Ok(6));
+    for short in [0, 11] {
+        let refused = (Err(Refusal::NoRoom), vec![LENT; short], [LENT; 6]);
+        assert_eq!(lent(short), refused);
+    }
+}
+
+#[test]
+fn the_last_line_that_can_be_refused_is_behind_the_most_rows() {
+    let rows: Vec<[u8; 2]> = (1..=255).map(|id| [id, 0]).collect();
+    let text = sheet_text(2, &rows);
+    assert_eq!(line_refused(&format!("{text}x")), 256);
+    assert_eq!(line_refused(text.trim_end()), 255);
 }

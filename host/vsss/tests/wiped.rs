@@ -123,12 +123,18 @@ fn sheets_leave_nothing_behind() {
     let mut row = Secret::zeroed(1 + LEN);
     row[0] = 1;
     fill(&mut row[1..], kind);
-    let sheet = vsss::sheet(2, &[&row]).unwrap();
+    let text = vsss::sheet(2, &[&row]).unwrap();
     assert!(
         is_in_memory_as_hex(kind),
         "the search must see what is kept"
     );
-    drop((row, sheet));
+    drop(row);
+    assert!(!is_in_memory(kind), "the row is in memory after writing it");
+    let sheet = vsss::read_sheet(&text).unwrap();
+    assert!(is_in_memory(kind), "the row is read");
+    // A text that stops being a sheet behind its first row.
+    assert!(vsss::read_sheet(&text[..text.len() - 1]).is_err());
+    drop((text, sheet));
     assert!(!is_in_memory(kind), "the row is still in memory");
     assert!(
         !is_in_memory_as_hex(kind),

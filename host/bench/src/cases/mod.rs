@@ -1,6 +1,7 @@
 //! What is measured. A new group is a module here that makes a [`Group`], and a line in [`all`].
 
 mod combine;
+mod reading;
 mod sheet;
 mod split;
 
@@ -47,6 +48,7 @@ pub fn all(original: Original) -> Vec<Group> {
         combine::group(original.combine),
         split::group(original.split),
         sheet::group(),
+        reading::group(),
     ]
 }
 

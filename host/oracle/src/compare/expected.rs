@@ -22,20 +22,39 @@ impl Expected {
     }
 
     pub fn check(&self, outcome: Outcome, out: &Guarded<u8>) -> Result<(), String> {
-        if outcome != self.outcome {
-            return Err(format!("answered {outcome}, expected {}", self.outcome));
-        }
-        if out.lend() != self.after {
-            return Err(format!(
-                "the output is wrong{}",
-                first_difference(out.lend(), &self.after)
-            ));
-        }
-        if !out.holds(&self.after) {
-            return Err("a byte beside the output changed".into());
-        }
-        Ok(())
+        answered(outcome, self.outcome)?;
+        written("the output", out, &self.after)
     }
+}
+
+pub(super) fn answered(outcome: Outcome, expected: Outcome) -> Result<(), String> {
+    if outcome == expected {
+        Ok(())
+    } else {
+        Err(format!("answered {outcome}, expected {expected}"))
+    }
+}
+
+/// What a word says, where it says no more than that.
+pub(super) fn outcome_of(word: u64) -> Result<Outcome, String> {
+    let outcome = Outcome::from_word(word);
+    if outcome.to_word() == word {
+        Ok(outcome)
+    } else {
+        Err(format!("answered {word:#x}, which is no answer"))
+    }
+}
+
+/// Whether a lent output holds what it should, and nothing beside it changed.
+pub(super) fn written(name: &str, out: &Guarded<u8>, expected: &[u8]) -> Result<(), String> {
+    if out.lend() != expected {
+        let difference = first_difference(out.lend(), expected);
+        return Err(format!("{name} is wrong{difference}"));
+    }
+    if !out.holds(expected) {
+        return Err(format!("a byte beside {name} changed"));
+    }
+    Ok(())
 }
 
 pub(super) fn first_difference(found: &[u8], expected: &[u8]) -> String {

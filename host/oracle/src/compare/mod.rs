@@ -6,6 +6,7 @@
 //! come last, the original has to accept. Refusal 13 has no counterpart: its rows are no rows.
 
 mod expected;
+pub mod reading;
 pub mod sheets;
 mod tally;
 

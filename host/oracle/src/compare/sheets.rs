@@ -1,14 +1,16 @@
 //! A writer of sheets beside the plain reading of document 02. The original has none.
 
-use super::expected::{Expected, untouched};
+use super::expected::{Expected, outcome_of, untouched};
 use super::tally::Tally;
 use crate::generate::{random_sheet_call, sheet_boundary_calls};
-use crate::{Guarded, Outcome, Random, SheetCall, reference};
+use crate::{Guarded, Random, SheetCall, reference};
 use std::fmt;
 
 /// Counts of a run, and what was found.
 #[derive(Clone, Debug, Default)]
 pub struct Summary {
+    /// What was compared.
+    pub what: &'static str,
     pub seed: u64,
     pub boundary: u64,
     pub random: u64,
@@ -27,7 +29,8 @@ impl fmt::Display for Summary {
     fn fmt(&self, f: &mut fmt::Formatter<'_>) -> fmt::Result {
         write!(
             f,
-            "sheets, seed {}: {} calls ({} boundary, {} random), {}; {} faults",
+            "{}, seed {}: {} calls ({} boundary, {} random), {}; {} faults",
+            self.what,
             self.seed,
             self.boundary + self.random,
             self.boundary,
@@ -50,6 +53,7 @@ pub fn run(
         // Another sequence than that of the calls.
         random: Random::from_seed(!seed),
         summary: Summary {
+            what: "sheets",
             seed,
             ..Summary::default()
         },
@@ -101,15 +105,5 @@ impl<W: Fn(usize, &[u8], &[u8], &mut [u8]) -> u64> Judge<W> {
 
     fn guard(&mut self, bytes: &[u8]) -> Guarded<u8> {
         Guarded::new(bytes, &mut self.random, Random::byte)
-    }
-}
-
-/// What a word says, where it says no more than that.
-fn outcome_of(word: u64) -> Result<Outcome, String> {
-    let outcome = Outcome::from_word(word);
-    if outcome.to_word() == word {
-        Ok(outcome)
-    } else {
-        Err(format!("answered {word:#x}, which is no answer"))
     }
 }

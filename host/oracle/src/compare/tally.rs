@@ -10,7 +10,7 @@ const DESCRIBED: usize = 10;
 pub struct Tally {
     pub done: u64,
     /// By number; place 0 is not used.
-    pub refused: [u64; 14],
+    pub refused: [u64; 15],
     pub faults: u64,
     pub descriptions: Vec<String>,
 }

@@ -4,11 +4,13 @@ mod boundaries;
 mod random_calls;
 mod sheets;
 mod short;
+mod texts;
 
 pub use boundaries::boundary_calls;
 pub use random_calls::random_call;
-pub use sheets::{random_sheet_call, sheet_boundary_calls};
+pub use sheets::{random_sheet_call, random_whole_sheet, sheet_boundary_calls};
 pub use short::short_calls;
+pub use texts::{damaged, random_read_call, read_boundary_calls};
 
 use crate::{CombineCall, SplitCall};
 

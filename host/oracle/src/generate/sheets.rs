@@ -177,10 +177,21 @@ fn refusals_combined(random: &mut Random) -> Vec<SheetCall> {
     calls
 }
 
-/// One random call; a third are damaged in up to three ways.
-pub fn random_sheet_call(random: &mut Random) -> SheetCall {
+/// A random call that is accepted, with exactly the room that it needs.
+pub fn random_whole_sheet(random: &mut Random) -> SheetCall {
+    let rows = some_rows(random);
+    SheetCall::of_rows(random.between(2, 255), &rows)
+}
+
+fn some_rows(random: &mut Random) -> Vec<Vec<u8>> {
     let mut rows = random_rows(random);
     rows.truncate(random.between(1, rows.len()));
+    rows
+}
+
+/// One random call; a third are damaged in up to three ways.
+pub fn random_sheet_call(random: &mut Random) -> SheetCall {
+    let mut rows = some_rows(random);
     let damaged = random.once_in(3);
     if damaged {
         for _ in 0..random.between(0, 2) {

@@ -1,14 +1,18 @@
 //! A plain reading of document 01, written from its text and not from the original: sums where the
 //! original has Horner, Neville's scheme where it has Lagrange coefficients, a search for inverses.
-//! And one of document 02's sheets. It favours being read over being fast, and it is not constant
-//! time.
+//! And one of document 02's sheets: what is written, and which texts can still become it. It favours
+//! being read over being fast, and it is not constant time.
 
+mod continuations;
 mod field;
+mod reading;
 mod refusals;
 mod sheet;
 mod values;
 
+pub use continuations::{Continuations, Found};
 pub use field::{inverse, power, product, quotient};
+pub use reading::{read_sheet, sheet_of};
 pub use sheet::{sheet_text, write_sheet};
 pub use values::{lagrange_coefficients, row_value, values_at_zero};
 

@@ -16,8 +16,8 @@ use Rattle.rows.specs.Search.{sum, allAre, placeOf, firstRepeated, within}
 use Rattle.rows.specs.Storage.{cut, laid, identifiers, values}
 use Rattle.rows.proofs.Search.{place-fresh, repeated-distinct, not-within}
 use Rattle.rows.proofs.Laid.{cut-laid, sum-laid}
-use Rattle.sharing.specs.Limits.{maxSecret}
-use Rattle.sharing.specs.RowSet.{judged}
+use Rattle.row_set.specs.Limits.{maxSecret}
+use Rattle.row_set.specs.RowSet.{judged}
 use Rattle.sharing.specs.Combine.{combineOutcome, combineAnswer, combineBytes}
 
 all-long : (w : ℕ) (rows : List (List ℕ)) → All (λ r. length r ≡ w) rows → allAre w (map length rows) ≡ true

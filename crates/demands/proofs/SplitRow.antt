@@ -11,7 +11,7 @@ use Rattle.answer.specs.Outcome.{done}
 use Rattle.shamir.specs.Rows.{row}
 use Rattle.shamir.proofs.Rows.{length-row}
 use Rattle.gf256.specs.Field256.{gf256}
-use Rattle.sharing.specs.Limits.{atExit}
+use Rattle.row_set.specs.Limits.{atExit}
 use Rattle.sharing.specs.Split.{splitOutcome, rowsOf, splitBytes}
 use Rattle.sharing.proofs.SplitAccepted.{accepted}
 use Rattle.demands.specs.Demands.{rowAt}

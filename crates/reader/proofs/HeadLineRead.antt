@@ -6,7 +6,7 @@ use mathlib.Core.List.{List, [], _∷_, _++_, append-assoc}
 use Prim.Native.Nat.{ℕ, _+_, _<_}
 use native.Mathlib.Omega.{arith}
 use lib.ListN.{length, drop, length-append}
-use Rattle.sharing.specs.Limits.{maxShares, maxSecret}
+use Rattle.row_set.specs.Limits.{maxShares, maxSecret}
 use Rattle.sheets.specs.Text.{decimal}
 use Rattle.sheets.specs.Sheet.{sealWord, headLine}
 use Rattle.reading.specs.Lines.{Head}

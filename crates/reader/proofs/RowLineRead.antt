@@ -10,7 +10,7 @@ use lib.Seq.{drop-drop, drop-at, take-at, length-take-le}
 use borrow.Author.Tests.{lt-ltb, le-ltb}
 use Rattle.shamir.specs.Lists.{All, Below}
 use Rattle.shamir.proofs.Lists.{all-drop}
-use Rattle.sharing.specs.Limits.{maxShares}
+use Rattle.row_set.specs.Limits.{maxShares}
 use Rattle.sheets.specs.Text.{decimal, hexDigit, hex}
 use Rattle.sheets.specs.Sheet.{rowWord, rowLine}
 use Rattle.sheets.specs.ReadAs.{IsHexDigit, unhexDigit, unhex}

@@ -2,7 +2,7 @@
 ghost use mathlib.Core.Path.{_≡_};
 ghost use Prim.Native.Nat.{_≤_};
 ghost use lib.ListN.{length};
-ghost use Rattle.sharing.specs.Limits.{maxShares, maxSecret};
+ghost use Rattle.row_set.specs.Limits.{maxShares, maxSecret};
 ghost use Rattle.reader.specs.Taking.{LinesAt};
 use crate::lines::read_row;
 

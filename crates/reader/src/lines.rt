@@ -2,7 +2,7 @@
 ghost use mathlib.Core.Path.{_≡_};
 ghost use Prim.Native.Nat.{_<_, _≤_};
 ghost use lib.ListN.{length};
-ghost use Rattle.sharing.specs.Limits.{maxSecret};
+ghost use Rattle.row_set.specs.Limits.{maxSecret};
 ghost use Rattle.reader.specs.Taking.{FieldAt, HeadRead, RowAt};
 use crate::taking::hex_at;
 use crate::taking::is_at;
@@ -47,17 +47,17 @@ pub fn read_head(text: &[u8]) -> Head
     if !word_at(text, 0, b"seal") {
         return NO_HEAD;
     }
-    let t = read_field(text, 4, 2, sharing::MAX_SHARES);
+    let t = read_field(text, 4, 2, row_set::MAX_SHARES);
     if t == 0 {
         return NO_HEAD;
     }
     let second = 5 + sheets::decimal_length(t);
-    let m = read_field(text, second, 1, sharing::MAX_SHARES);
+    let m = read_field(text, second, 1, row_set::MAX_SHARES);
     if m == 0 {
         return NO_HEAD;
     }
     let third = second + 1 + sheets::decimal_length(m);
-    let l = read_field(text, third, 1, sharing::MAX_SECRET);
+    let l = read_field(text, third, 1, row_set::MAX_SECRET);
     if l == 0 {
         return NO_HEAD;
     }
@@ -83,7 +83,7 @@ pub fn read_row(text: &[u8], at: usize, l: usize) -> usize
     if !word_at(text, at, b"row") {
         return 0;
     }
-    let id = read_field(text, at + 3, 1, sharing::MAX_SHARES);
+    let id = read_field(text, at + 3, 1, row_set::MAX_SHARES);
     if id == 0 {
         return 0;
     }

@@ -11,7 +11,7 @@ use lib.Dec.{ltb}
 use lib.ListN.{length}
 use Rattle.answer.specs.Outcome.{Outcome, done, refused, refuse}
 use Rattle.rows.specs.Storage.{laid}
-use Rattle.sharing.specs.Limits.{maxShares, maxSecret}
+use Rattle.row_set.specs.Limits.{maxShares, maxSecret}
 use Rattle.reading.specs.Unsheet.{Read, sheetOf, notAt, unsheet}
 use Rattle.reading.specs.Answer.{answerTo, readAnswer}
 use Rattle.reading.proofs.LaidRows.{length-laid}

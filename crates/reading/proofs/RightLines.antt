@@ -12,7 +12,7 @@ use borrow.Author.Tests.{eqb-true, eq-eqb, ltb-true, ltb-false, lt-ltb, le-ltb, 
 use Rattle.shamir.specs.Lists.{Fresh}
 use Rattle.rows.specs.Search.{placeOf, within}
 use Rattle.rows.proofs.Search.{fresh-of, place-fresh}
-use Rattle.sharing.specs.Limits.{maxShares, maxSecret}
+use Rattle.row_set.specs.Limits.{maxShares, maxSecret}
 use Rattle.sheets.specs.Text.{decimal, hex}
 use Rattle.sheets.specs.Sheet.{sealWord, rowWord, headLine, rowLine}
 use Rattle.sheets.specs.ReadAs.{value, unhex}

@@ -15,8 +15,8 @@ use Rattle.rows.proofs.Search.{fresh-of, distinct-of}
 use Rattle.rows.proofs.Storage.{sum-replicate, length-cut}
 use Rattle.rows.proofs.Lengths.{length-lengths}
 use Rattle.rows.proofs.Pigeonhole.{pigeonhole}
-use Rattle.sharing.specs.RowSet.{secretLength}
-use Rattle.sharing.proofs.RowSet.{AcceptedRows}
+use Rattle.row_set.specs.RowSet.{secretLength}
+use Rattle.row_set.proofs.RowSet.{AcceptedRows}
 use Rattle.reading.specs.Reading.{IsSheet}
 use Rattle.reading.specs.Lines.{Head, Row, Rows}
 use Rattle.sheets.proofs.Lines.{Writable}

@@ -16,9 +16,9 @@ use Rattle.rows.specs.Search.{sum, allAre, firstRepeated, placeOf, within}
 use Rattle.rows.specs.Storage.{cut, laid, identifiers}
 use Rattle.rows.proofs.Search.{place-fresh, repeated-distinct, not-within}
 use Rattle.rows.proofs.Laid.{cut-laid, sum-laid}
-use Rattle.sharing.specs.Limits.{maxSecret, maxShares}
-use Rattle.sharing.specs.RowSet.{secretLength, judged, judgedRows}
-use Rattle.sharing.proofs.RowSet.{by-lengths}
+use Rattle.row_set.specs.Limits.{maxSecret, maxShares}
+use Rattle.row_set.specs.RowSet.{secretLength, judged, judgedRows}
+use Rattle.row_set.proofs.RowSet.{by-lengths}
 use Rattle.sheets.specs.Sheet.{sheet, sheetText, judgedThreshold, sheetAnswer}
 use Rattle.reading.specs.Unsheet.{SheetOf}
 use Rattle.reading.specs.Lines.{Head, Row, Rows}

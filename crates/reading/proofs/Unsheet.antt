@@ -9,7 +9,7 @@ use lib.ListN.{length}
 use Rattle.rows.specs.Storage.{cut, laid}
 use Rattle.rows.specs.Lengths.{lengthsOf}
 use Rattle.rows.proofs.Laid.{laid-cut}
-use Rattle.sharing.specs.RowSet.{secretLength}
+use Rattle.row_set.specs.RowSet.{secretLength}
 use Rattle.sheets.specs.Sheet.{headLine, rowLines, sheet}
 use Rattle.reading.specs.Reading.{IsSheet}
 use Rattle.reading.specs.Unsheet.{Read, sheetOf, unsheet, SheetOf}

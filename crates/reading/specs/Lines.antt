@@ -6,7 +6,7 @@ use Prim.Native.Nat.{ℕ, _+_, _<_, _≤_}
 use lib.ListN.{length, getD}
 use Rattle.shamir.specs.Lists.{All, Below, Distinct}
 use Rattle.rows.specs.Storage.{identifiers}
-use Rattle.sharing.specs.Limits.{maxShares, maxSecret}
+use Rattle.row_set.specs.Limits.{maxShares, maxSecret}
 
 -- threshold, row count and L of a first line
 pub record Head (t m l : ℕ) : Type 0 where

@@ -10,8 +10,8 @@ use lib.ListN.{length, getD}
 use Rattle.rows.specs.Search.{placeOf, within}
 use Rattle.rows.specs.Storage.{cut, laid, identifiers}
 use Rattle.rows.specs.Lengths.{lengthsOf}
-use Rattle.sharing.specs.Limits.{maxShares, maxSecret}
-use Rattle.sharing.specs.RowSet.{secretLength}
+use Rattle.row_set.specs.Limits.{maxShares, maxSecret}
+use Rattle.row_set.specs.RowSet.{secretLength}
 use Rattle.sheets.specs.ReadAs.{value, unhex}
 use Rattle.sheets.specs.Text.{tab, lineFeed}
 use Rattle.sheets.specs.Sheet.{headLine, rowLine, sheet}

@@ -12,12 +12,12 @@ use Rattle.gf256.specs.Field256.{gf256}
 use Rattle.rows.specs.Storage.{cut, identifiers, values}
 use Rattle.rows.specs.Lengths.{lengthsOf}
 use Rattle.rows.proofs.Lengths.{length-lengths}
-use Rattle.sharing.specs.Limits.{atExit}
-use Rattle.sharing.specs.RowSet.{secretLength, judgedRows, judgedByteLengths, unreadable}
+use Rattle.row_set.specs.Limits.{atExit}
+use Rattle.row_set.specs.RowSet.{secretLength, judgedRows, judgedByteLengths, unreadable}
+use Rattle.row_set.proofs.Chains.{passed}
+use Rattle.row_set.proofs.RowSet.{rows-chain, accepted-rows}
 use Rattle.sharing.specs.Combine.{combineOutcome, combineAnswer, combineBytes, Combines, CombinesAccepted}
 use Rattle.sharing.specs.ByteLengths.{byteLengthsAnswer, byteLengthsBytes, CombinesByByteLengths}
-use Rattle.sharing.proofs.Chains.{passed}
-use Rattle.sharing.proofs.RowSet.{rows-chain, accepted-rows}
 
 module _ (s ns out : List ℕ) where
   abbrev room-and-done : Outcome

@@ -10,9 +10,9 @@ use lib.Dec.{eqb, ltb}
 use lib.ListN.{length, take}
 use Rattle.shamir.specs.Lists.{Fresh}
 use Rattle.answer.specs.Outcome.{Outcome, done}
-use Rattle.sharing.specs.Limits.{maxSecret, maxShares}
+use Rattle.row_set.specs.Limits.{maxSecret, maxShares}
+use Rattle.row_set.proofs.Chains.{apart, passed}
 use Rattle.sharing.specs.Split.{inTurn, coefficientCount, splitRoom, splitOutcome}
-use Rattle.sharing.proofs.Chains.{apart, passed}
 use Rattle.sharing.proofs.SplitRules.{afterIds}
 
 -- threshold t, limit n, a secret of l bytes, these identifiers, so many coefficients and so much room; m bytes are written

@@ -11,7 +11,7 @@ use Rattle.answer.specs.declared.Answer.{Answer}
 use Rattle.answer.specs.declared.Answer.the-variants.{Done, Refused}
 use Rattle.answer.specs.declared.Reason.{Reason}
 use Rattle.answer.proofs.Meaning.{told}
-use Rattle.sharing.specs.Limits.{atExit}
+use Rattle.row_set.specs.Limits.{atExit}
 use Rattle.sharing.specs.Split.{splitRoom, splitOutcome, rowsOf, splitBytes, Splits}
 use Rattle.sharing.proofs.SplitAccepted.{Accepted, accepted}
 

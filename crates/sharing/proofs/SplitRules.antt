@@ -11,7 +11,7 @@ use lib.Dec.{eqb, ltb}
 use lib.ListN.{length, drop, getD, drop-of-length-le}
 use lib.Seq.{drop-cons}
 use Rattle.answer.specs.Outcome.{Outcome, done, refused, refuse}
-use Rattle.sharing.specs.Limits.{maxSecret, maxShares}
+use Rattle.row_set.specs.Limits.{maxSecret, maxShares}
 use Rattle.sharing.specs.Split.{inTurn, coefficientCount, splitRoom}
 
 -- what comes after the identifiers

@@ -7,7 +7,7 @@ use Prim.Native.Nat.{ℕ}
 use lib.ListN.{length}
 use Rattle.answer.specs.Outcome.{Outcome, refused, refuse}
 use Rattle.rows.specs.Lengths.{lengthsOf}
-use Rattle.sharing.specs.RowSet.{unreadable}
+use Rattle.row_set.specs.RowSet.{unreadable}
 use Rattle.sharing.specs.Combine.{combineAnswer, combineBytes}
 
 -- of the rows s with these lengths, and an output of so much room

@@ -10,8 +10,8 @@ use Rattle.shamir.specs.Rows.{combined}
 use Rattle.gf256.specs.Field256.{gf256}
 use Rattle.strides.specs.Strides.{strided}
 use Rattle.rows.specs.Storage.{cut, identifiers, values}
-use Rattle.sharing.specs.Limits.{atExit}
-use Rattle.sharing.specs.RowSet.{secretLength, judged}
+use Rattle.row_set.specs.Limits.{atExit}
+use Rattle.row_set.specs.RowSet.{secretLength, judged}
 
 -- the answer for so many stored bytes, these row lengths, these identifiers and so much room: two rows are enough
 unfoldable pub combineOutcome : ℕ → List ℕ → List ℕ → ℕ → Outcome

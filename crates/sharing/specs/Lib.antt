@@ -1,5 +1,3 @@
-pub mod Limits
 pub mod Split
-pub mod RowSet
 pub mod Combine
 pub mod ByteLengths

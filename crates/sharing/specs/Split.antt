@@ -9,7 +9,7 @@ use lib.ListN.{length, take}
 use Rattle.answer.specs.Outcome.{Outcome, done, refused, refuse}
 use Rattle.shamir.specs.Rows.{row}
 use Rattle.gf256.specs.Field256.{gf256}
-use Rattle.sharing.specs.Limits.{maxSecret, maxShares, atExit}
+use Rattle.row_set.specs.Limits.{maxSecret, maxShares, atExit}
 
 -- refusals 5 and 6: n identifiers in turn, from place i on; the first that is missing or zero decides
 abbrev pub inTurn : ℕ → ℕ → List ℕ → Outcome → Outcome

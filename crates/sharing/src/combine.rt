@@ -4,10 +4,10 @@ ghost use Rattle.answer.specs.Answers.{answerOf};
 ghost use Rattle.rows.specs.Combining.{Ready};
 ghost use Rattle.sharing.specs.Combine.{Combines, CombinesAccepted};
 ghost use Rattle.sharing.specs.ByteLengths.{CombinesByByteLengths};
-use crate::row_set::judge_rows;
-use crate::row_set::judge_rows_by_byte_lengths;
 use answer::Answer;
 use answer::Reason;
+use row_set::judge_rows;
+use row_set::judge_rows_by_byte_lengths;
 
 // Of m accepted rows with l values each.
 fn combine_accepted(rows: &[u8], m: usize, l: usize, out: &mut [u8]) -> Answer

@@ -6,10 +6,10 @@ ghost use Prim.Native.Nat.{_*_, _<_, _≤_};
 ghost use lib.ListN.{length, take, drop};
 ghost use Rattle.answer.specs.Answers.{answerOf};
 ghost use Rattle.sharing.specs.Split.{splitRoom, splitOutcome, rowsOf, Splits};
-use crate::limits::MAX_SECRET;
-use crate::limits::MAX_SHARES;
 use answer::Answer;
 use answer::Reason;
+use row_set::MAX_SECRET;
+use row_set::MAX_SHARES;
 
 // The answer, from lengths and identifiers alone. A product is made only once the tests before it bound its factors.
 fn split_answer(

@@ -15,10 +15,10 @@ use Rattle.rows.specs.Search.{sum}
 use Rattle.rows.specs.Storage.{cut}
 use Rattle.rows.specs.Lengths.{lengthsOf}
 use Rattle.rows.proofs.Storage.{sum-replicate}
-use Rattle.sharing.specs.Limits.{maxShares}
-use Rattle.sharing.specs.RowSet.{secretLength, unreadable}
-use Rattle.sharing.proofs.Chains.{passed, through}
-use Rattle.sharing.proofs.RowSet.{readable, AcceptedRows, accepted-bytes, byte-lengths-chain}
+use Rattle.row_set.specs.Limits.{maxShares}
+use Rattle.row_set.specs.RowSet.{secretLength, unreadable}
+use Rattle.row_set.proofs.Chains.{passed, through}
+use Rattle.row_set.proofs.RowSet.{readable, AcceptedRows, accepted-bytes, byte-lengths-chain}
 use Rattle.sheets.specs.Sheet.{sheetAnswer}
 use Rattle.sheets.proofs.Lines.{Writable}
 

@@ -5,7 +5,7 @@ use Rattle.answer.proofs.Meaning.{told}
 use Rattle.rows.specs.Storage.{cut}
 use Rattle.rows.specs.Lengths.{lengthsOf}
 use Rattle.rows.proofs.Laid.{cut-told}
-use Rattle.sharing.specs.RowSet.{secretLength, judged}
+use Rattle.row_set.specs.RowSet.{secretLength, judged}
 use Rattle.sheets.specs.Text.{decimal}
 use Rattle.sheets.specs.Sheet.{sheet, sheetAnswer, sheetBytes}
 use Rattle.sheets.specs.Promises.{Determined, Independent, ToldApart, DecimalRight, CaseG}

@@ -11,7 +11,7 @@ use Rattle.shamir.specs.Lists.{Below}
 use Rattle.shamir.proofs.Lists.{all-take, all-drop, all-at}
 use Rattle.rows.specs.Storage.{cut}
 use Rattle.rows.proofs.Storage.{length-cut}
-use Rattle.sharing.specs.Limits.{maxSecret, maxShares, maxRows}
+use Rattle.row_set.specs.Limits.{maxSecret, maxShares, maxRows}
 use Rattle.sheets.specs.Text.{decimal}
 use Rattle.sheets.specs.Sheet.{headLine, rowLine, rowLines, sheet}
 use Rattle.sheets.specs.Writing.{Puts}

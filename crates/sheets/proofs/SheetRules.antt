@@ -10,10 +10,10 @@ use borrow.Author.Tests.{lt-ltb, le-ltb}
 use Rattle.answer.specs.Outcome.{Outcome, done, refused}
 use Rattle.rows.specs.Storage.{cut}
 use Rattle.rows.specs.Lengths.{lengthsOf}
-use Rattle.sharing.specs.Limits.{maxShares, maxRows, maxSecret, atExit}
-use Rattle.sharing.specs.RowSet.{secretLength, judgedByteLengths, unreadable}
-use Rattle.sharing.proofs.Chains.{passed}
-use Rattle.sharing.proofs.RowSet.{readable, byte-lengths-chain, accepted-bytes}
+use Rattle.row_set.specs.Limits.{maxShares, maxRows, maxSecret, atExit}
+use Rattle.row_set.specs.RowSet.{secretLength, judgedByteLengths, unreadable}
+use Rattle.row_set.proofs.Chains.{passed}
+use Rattle.row_set.proofs.RowSet.{readable, byte-lengths-chain, accepted-bytes}
 use Rattle.sheets.specs.Sheet.{headLine, sheet, sheetText, judgedThreshold, sheetAnswer, sheetBytes, WritesAccepted, WritesSheet}
 use Rattle.sheets.specs.Writing.{Puts}
 use Rattle.sheets.proofs.Writing.{puts-then}

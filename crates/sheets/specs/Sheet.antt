@@ -8,8 +8,8 @@ use lib.ListN.{length, getD, drop, replicate}
 use Rattle.answer.specs.Outcome.{Outcome, done, refused, refuse}
 use Rattle.rows.specs.Storage.{cut}
 use Rattle.rows.specs.Lengths.{lengthsOf}
-use Rattle.sharing.specs.Limits.{maxShares, atExit}
-use Rattle.sharing.specs.RowSet.{secretLength, judgedByteLengths}
+use Rattle.row_set.specs.Limits.{maxShares, atExit}
+use Rattle.row_set.specs.RowSet.{secretLength, judgedByteLengths}
 use Rattle.sheets.specs.Text.{decimal, hex, line}
 
 -- `seal` and `row`

@@ -3,7 +3,7 @@ ghost use mathlib.Core.Path.{_≡_};
 ghost use Prim.Native.Nat.{_+_, _*_, _<_, _≤_};
 ghost use lib.ListN.{length, replicate};
 ghost use Rattle.rows.specs.Storage.{cut};
-ghost use Rattle.sharing.specs.Limits.{maxSecret, maxShares, maxRows};
+ghost use Rattle.row_set.specs.Limits.{maxSecret, maxShares, maxRows};
 ghost use Rattle.sheets.specs.Text.{decimal};
 ghost use Rattle.sheets.specs.Sheet.{headLine, sheet};
 

@@ -3,7 +3,7 @@ ghost use mathlib.Core.Path.{_≡_};
 ghost use Prim.Native.Nat.{_+_, _*_, _≤_};
 ghost use lib.ListN.{length};
 ghost use Rattle.answer.specs.Answers.{answerOf};
-ghost use Rattle.sharing.specs.Limits.{maxSecret, maxRows};
+ghost use Rattle.row_set.specs.Limits.{maxSecret, maxRows};
 ghost use Rattle.sheets.specs.Sheet.{WritesAccepted, WritesSheet};
 use crate::length::sheet_length;
 use crate::put::put_head;
@@ -19,7 +19,7 @@ fn write_accepted(threshold: usize, rows: &[u8], m: usize, l: usize, out: &mut [
     if threshold < 2 {
         return Answer::Refused(Reason::SharingMinThreshold);
     }
-    if sharing::MAX_SHARES < threshold {
+    if row_set::MAX_SHARES < threshold {
         return Answer::Refused(Reason::InvalidSizeRequest);
     }
     let n = sheet_length(threshold, rows, m, l);
@@ -35,7 +35,7 @@ fn write_accepted(threshold: usize, rows: &[u8], m: usize, l: usize, out: &mut [
 pub fn write_sheet(threshold: usize, rows: &[u8], lengths: &[u8], out: &mut [u8]) -> Answer
     ensures { λ r. ⌜ WritesSheet threshold (now (rows .entry)) (now (lengths .entry)) (now (out .entry)) (answerOf r) (now (out .exit)) ⌝ }
 {
-    let judged = sharing::judge_rows_by_byte_lengths(rows, lengths, 0);
+    let judged = row_set::judge_rows_by_byte_lengths(rows, lengths, 0);
     let Answer::Done(l) = judged else {
         return judged;
     };

@@ -17,14 +17,14 @@ use Rattle.rows.specs.Lengths.{lengthsOf}
 use Rattle.rows.proofs.Lengths.{length-lengths}
 use Rattle.rows.proofs.Search.{repeating-within}
 use Rattle.rows.proofs.Storage.{length-cut}
-use Rattle.sharing.specs.Limits.{maxSecret, maxShares, maxRows}
+use Rattle.row_set.specs.Limits.{maxSecret, maxShares, maxRows}
+use Rattle.row_set.specs.RowSet.{firstLength, secretLength, judged, unreadable}
+use Rattle.row_set.proofs.Chains.{Chain, passed}
+use Rattle.row_set.proofs.RowSet.{byte-lengths-chain, accepted-bytes}
+use Rattle.row_set.proofs.RowSet as row-set
 use Rattle.sharing.specs.Split.{inTurn, coefficientCount, splitRoom, splitOutcome}
-use Rattle.sharing.specs.RowSet.{firstLength, secretLength, judged, unreadable}
 use Rattle.sharing.specs.Combine.{combineOutcome}
 use Rattle.sharing.specs.ByteLengths.{byteLengthsAnswer}
-use Rattle.sharing.proofs.Chains.{Chain, passed}
-use Rattle.sharing.proofs.RowSet.{byte-lengths-chain, accepted-bytes}
-use Rattle.sharing.proofs.RowSet as row-set
 use Rattle.sheets.specs.Sheet.{sheet, sheetText, sheetAnswer}
 use Rattle.sheets.proofs.PutRows.{sheet-short}
 use Rattle.reading.specs.Answer.{readAnswer}

@@ -2,8 +2,8 @@
 -- Assumes nothing.
 use mathlib.Core.Path.{sym, _∙_}
 use borrow.Author.Needs.{needs}
-use Rattle.sharing.proofs.Chains.{told-done, told-refused}
-use Rattle.sharing.proofs.RowSet.{accepted-rows}
+use Rattle.row_set.proofs.Chains.{told-done, told-refused}
+use Rattle.row_set.proofs.RowSet.{accepted-rows}
 use Rattle.sharing.proofs.CombineAccepted.{refuses, combines}
 use Rattle.sharing.proofs.combine.combine_bytes.Statement.{statement}
 use Rattle.sharing.proofs.combine.combine_bytes.Tie as tie

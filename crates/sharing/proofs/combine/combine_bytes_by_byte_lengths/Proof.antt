@@ -2,8 +2,8 @@
 -- Assumes nothing.
 use mathlib.Core.Path.{sym, _∙_}
 use borrow.Author.Needs.{needs}
-use Rattle.sharing.proofs.Chains.{told-done, told-refused}
-use Rattle.sharing.proofs.RowSet.{accepted-bytes}
+use Rattle.row_set.proofs.Chains.{told-done, told-refused}
+use Rattle.row_set.proofs.RowSet.{accepted-bytes}
 use Rattle.sharing.proofs.CombineAccepted.{refuses-bytes, combines-bytes}
 use Rattle.sharing.proofs.combine.combine_bytes_by_byte_lengths.Statement.{statement}
 use Rattle.sharing.proofs.combine.combine_bytes_by_byte_lengths.Tie as tie

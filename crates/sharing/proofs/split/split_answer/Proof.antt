@@ -4,7 +4,7 @@ use Prim.Native.Nat.{_+_, _-_, _≤_}
 use mathlib.Core.Path.{_≡_, sym, ap, _∙_}
 use native.Mathlib.Omega.{arith}
 use borrow.Author.Tests.{lt-ltb, le-ltb, eq-eqb, ne-eqb}
-use Rattle.sharing.specs.Limits.{maxShares}
+use Rattle.row_set.specs.Limits.{maxShares}
 use Rattle.sharing.specs.Split.{inTurn, splitOutcome}
 use Rattle.sharing.proofs.SplitRules.{afterIds, fromPlace, turn-missing, turn-next, turn-end, small}
 use Rattle.sharing.proofs.split.split_answer.Statement.{statement}

@@ -5,7 +5,7 @@ use Prim.Native.Nat.{_+_, _*_, _-_, _≤_}
 use native.Mathlib.Nat.{zero-mul}
 use native.Mathlib.Omega.{arith}
 use lib.ListN.{length, getD}
-use Rattle.sharing.specs.Limits.{maxSecret}
+use Rattle.row_set.specs.Limits.{maxSecret}
 use Rattle.sheets.specs.Text.{decimal}
 use Rattle.sheets.specs.Sheet.{headLine}
 use Rattle.sheets.proofs.PutRows.{linesTo, row-inside, line-length, sheet-length-is}

@@ -2,7 +2,7 @@
 -- Assumes nothing.
 use mathlib.Core.Path.{sym, _∙_}
 use borrow.Author.Needs.{needs}
-use Rattle.sharing.proofs.Chains.{told-done, told-refused}
+use Rattle.row_set.proofs.Chains.{told-done, told-refused}
 use Rattle.sheets.proofs.SheetRules.{refuses, accepted, writes}
 use Rattle.sheets.proofs.write.write_sheet.Statement.{statement}
 use Rattle.sheets.proofs.write.write_sheet.Tie as tie

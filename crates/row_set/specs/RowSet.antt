@@ -9,7 +9,7 @@ use Rattle.answer.specs.Outcome.{Outcome, refused, refuse}
 use Rattle.rows.specs.Search.{sum, allAre, firstZero, firstRepeated, firstRepeating, within}
 use Rattle.rows.specs.Storage.{cut, identifiers}
 use Rattle.rows.specs.Lengths.{lengthsOf}
-use Rattle.sharing.specs.Limits.{maxSecret, maxRows}
+use Rattle.row_set.specs.Limits.{maxSecret, maxRows}
 
 -- the length of the first row, and of its values: the secret's length
 abbrev pub firstLength : List ℕ → ℕ

@@ -5,9 +5,9 @@ use Prim.Native.Nat.{suc}
 use native.Mathlib.Omega.{arith}
 use lib.ListN.{length, getD}
 use borrow.Author.Needs.{needs}
-use Rattle.sharing.proofs.RowSet.{yes, no, other-sum, too-few, too-short, unequal, fills, of-equal}
-use Rattle.sharing.proofs.row_set.judge_rows.Statement.{statement}
-use Rattle.sharing.proofs.row_set.judge_rows.Tie as tie
+use Rattle.row_set.proofs.RowSet.{yes, no, other-sum, too-few, too-short, unequal, fills, of-equal}
+use Rattle.row_set.proofs.judge_rows.Statement.{statement}
+use Rattle.row_set.proofs.judge_rows.Tie as tie
 
 sums-to-requires : tie.Need-sums-to-requires
 sums-to-requires c κs = search needs

@@ -17,9 +17,9 @@ use Rattle.rows.specs.Combining.{Ready}
 use Rattle.strides.proofs.Strides.{length-strided}
 use Rattle.rows.proofs.Lengths.{length-lengths}
 use Rattle.rows.proofs.Storage.{equal-lengths, sum-replicate, column-strided}
-use Rattle.sharing.specs.Limits.{maxSecret, maxRows}
-use Rattle.sharing.specs.RowSet.{firstLength, secretLength, judgedIdentifiers, judged, judgedRows, unreadable, judgedByteLengths}
-use Rattle.sharing.proofs.Chains.{Chain, end, then, passed}
+use Rattle.row_set.specs.Limits.{maxSecret, maxRows}
+use Rattle.row_set.specs.RowSet.{firstLength, secretLength, judgedIdentifiers, judged, judgedRows, unreadable, judgedByteLengths}
+use Rattle.row_set.proofs.Chains.{Chain, end, then, passed}
 
 -- a test of what a call answers, turned round in the code
 pub yes : {r t : Bool} → r ≡ t → not r ≡ false → t ≡ true

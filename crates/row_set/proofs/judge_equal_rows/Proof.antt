@@ -3,9 +3,9 @@
 use Prim.Native.Nat.{_-_}
 use native.Mathlib.Omega.{arith}
 use borrow.Author.Needs.{needs}
-use Rattle.sharing.proofs.RowSet.{zero-found, repeat-found, too-long, all-well}
-use Rattle.sharing.proofs.row_set.judge_equal_rows.Statement.{statement}
-use Rattle.sharing.proofs.row_set.judge_equal_rows.Tie as tie
+use Rattle.row_set.proofs.RowSet.{zero-found, repeat-found, too-long, all-well}
+use Rattle.row_set.proofs.judge_equal_rows.Statement.{statement}
+use Rattle.row_set.proofs.judge_equal_rows.Tie as tie
 
 find-requires : tie.Need-find-requires
 find-requires c κs = let s = c .before in (omega arith, omega (arith, s .pre .0), omega (arith, s .pre .1))

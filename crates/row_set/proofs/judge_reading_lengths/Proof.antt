@@ -8,9 +8,9 @@ use borrow.Author.Needs.{needs}
 use Rattle.rows.specs.Search.{allAre}
 use Rattle.rows.specs.Lengths.{lengthsOf}
 use Rattle.rows.proofs.Lengths.{length-lengths}
-use Rattle.sharing.proofs.RowSet.{yes, no, other-sum, too-few, too-short, unequal, fills, of-equal}
-use Rattle.sharing.proofs.row_set.judge_reading_lengths.Statement.{statement}
-use Rattle.sharing.proofs.row_set.judge_reading_lengths.Tie as tie
+use Rattle.row_set.proofs.RowSet.{yes, no, other-sum, too-few, too-short, unequal, fills, of-equal}
+use Rattle.row_set.proofs.judge_reading_lengths.Statement.{statement}
+use Rattle.row_set.proofs.judge_reading_lengths.Tie as tie
 
 byte-lengths-sum-to-requires : tie.Need-byte-lengths-sum-to-requires
 byte-lengths-sum-to-requires c κs = search needs

@@ -2,9 +2,9 @@
 -- Assumes nothing.
 use Prim.Native.Nat.{suc}
 use borrow.Author.Needs.{needs}
-use Rattle.sharing.proofs.RowSet.{not-fours, too-many, by-lengths}
-use Rattle.sharing.proofs.row_set.judge_rows_by_byte_lengths.Statement.{statement}
-use Rattle.sharing.proofs.row_set.judge_rows_by_byte_lengths.Tie as tie
+use Rattle.row_set.proofs.RowSet.{not-fours, too-many, by-lengths}
+use Rattle.row_set.proofs.judge_rows_by_byte_lengths.Statement.{statement}
+use Rattle.row_set.proofs.judge_rows_by_byte_lengths.Tie as tie
 
 returns : tie.Need-returns
 returns c = let a = c .before .before .before .args in not-fours (suc (a .too-few)) (a .rows .now) (a .lengths .now) _ (c .if1 .taken)

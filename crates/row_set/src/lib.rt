@@ -1,4 +1,5 @@
-// The checks that every use of a set of rows begins with: done with the length of a row's values, or the first refusal up to 10.
+// The limits, and the checks that every use of a set of rows begins with: done with the length of a row's values, or the first
+// refusal up to 10.
 ghost use mathlib.Core.Path.{_≡_};
 ghost use Prim.Native.Nat.{suc, _*_, _-_, _<_};
 ghost use lib.ListN.{length};
@@ -6,11 +7,18 @@ ghost use Rattle.answer.specs.Outcome.{done};
 ghost use Rattle.answer.specs.Answers.{answerOf};
 ghost use Rattle.rows.specs.Lengths.{lengthsOf};
 ghost use Rattle.strides.specs.Strides.{strided};
-ghost use Rattle.sharing.specs.RowSet.{secretLength, judgedIdentifiers, judgedRows, judgedByteLengths};
-use crate::limits::MAX_ROWS;
-use crate::limits::MAX_SECRET;
+ghost use Rattle.row_set.specs.RowSet.{secretLength, judgedIdentifiers, judgedRows, judgedByteLengths};
 use answer::Answer;
 use answer::Reason;
+
+// The longest secret: more is refusal 10.
+pub const MAX_SECRET: usize = 4096;
+
+// The most rows that a split makes, and the highest threshold of a sheet: more is refusal 1.
+pub const MAX_SHARES: usize = 255;
+
+// The most rows whose lengths may come as bytes: more is refusal 13.
+const MAX_ROWS: usize = 65535;
 
 // What is left once the lengths are judged: m rows of w bytes each fill the storage. A zero anywhere comes before a repeat.
 fn judge_equal_rows(rows: &[u8], w: usize, m: usize) -> Answer

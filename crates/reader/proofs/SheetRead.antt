@@ -1,24 +1,22 @@
 -- What was read of a text decides what the reader answers and leaves.
 -- Assumes nothing.
-use mathlib.Core.Path.{_≡_, refl, sym, ap, ap₂, _∙_, subst}
-use mathlib.Core.Bool.{Bool, true, false}
-use mathlib.Core.List.{List, [], _∷_, _++_}
-use Prim.Native.Nat.{ℕ, suc, _+_, _*_, _<_, _≤_}
+use mathlib.Core.Path.{_≡_, sym, ap, ap₂, _∙_}
+use mathlib.Core.List.{List, [], _++_}
+use Prim.Native.Nat.{ℕ, _+_, _*_, _<_, _≤_}
 use native.Mathlib.Omega.{arith}
-use lib.Dec.{ltb}
 use lib.ListN.{length, drop, length-append}
-use borrow.Author.Tests.{lt-ltb, le-ltb}
-use Rattle.answer.specs.Outcome.{Outcome, done, refused, refuse}
+use Rattle.answer.specs.Outcome.{done, refused}
 use Rattle.rows.specs.Storage.{laid}
 use Rattle.rows.specs.Lengths.{fourBytes}
 use Rattle.sheets.specs.Sheet.{headLine}
 use Rattle.sheets.specs.Writing.{Puts}
-use Rattle.reading.specs.Unsheet.{Read, sheetOf, notAt, unrows, unsheet}
-use Rattle.reading.specs.Answer.{answerTo, headOf, rowsOf, leftIn, readAnswer, readHead, readRows, ReadsSheet}
+use Rattle.reading.specs.Unsheet.{sheetOf, notAt, unrows, unsheet}
+use Rattle.reading.specs.Answer.{ReadsSheet}
 use Rattle.reading.proofs.LaidRows.{length-laid}
 use Rattle.reading.proofs.Beginnings.{head-right}
 use Rattle.reading.proofs.Unrows.{unrows-finds}
-use Rattle.reader.specs.Taking.{HeadRead, RowsStand, SomeRows, LinesAt, TakesRows}
+use Rattle.reading.proofs.Answers.{no-sheet, short-head, short-room, room-enough, refused-leaves, done-leaves}
+use Rattle.reader.specs.Taking.{HeadRead, RowsStand, LinesAt}
 
 -- ---- what is found
 
@@ -47,35 +45,23 @@ rows-long {text} {at} {m} {l} {rows} s = length-laid l rows (s .are-rows .each) 
 -- ---- what is answered
 
 module _ (text head out : List ℕ) where
-  -- by what is found
-  by-found : (r : Read) {answer : Outcome} {head-left left : List ℕ} → unsheet text ≡ r → answer ≡ answerTo r (length head) (length out)
-      → head-left ≡ leftIn answer (headOf r) head → left ≡ leftIn answer (rowsOf r) out → ReadsSheet text head out answer head-left left
-  unfolding readAnswer readHead readRows
-  by-found r {answer} e a h z =
-      let answers : answer ≡ answerTo (unsheet text) (length head) (length out) = a ∙ ap (λ x. answerTo x (length head) (length out)) (sym e) in
-      record {
-        answers = answers;
-        head-leaves = h ∙ ap₂ (λ x y. leftIn x (headOf y) head) answers (sym e);
-        leaves = z ∙ ap₂ (λ x y. leftIn x (rowsOf y) out) answers (sym e);
-      }
-
   pub refuses-text : (k : ℕ) → unsheet text ≡ notAt k → ReadsSheet text head out (refused 14 k 0) head out
-  refuses-text k e = by-found (notAt k) e refl refl refl
+  refuses-text k e = refused-leaves (no-sheet text e (length head) (length out))
 
   module _ (t l : ℕ) (rows : List (List ℕ)) (e : unsheet text ≡ sheetOf t l rows) where
-    judged : (a b : Bool) → ltb (length head) 12 ≡ a → ltb (length out) (length (laid rows)) ≡ b
-        → answerTo (sheetOf t l rows) (length head) (length out) ≡ refuse a (refused 12 0 0) (refuse b (refused 12 0 0) (done (length (laid rows))))
-    judged a b p q = ap₂ (λ x y. refuse x (refused 12 0 0) (refuse y (refused 12 0 0) (done (length (laid rows))))) p q
-
     pub refuses-head : length head < 12 → ReadsSheet text head out (refused 12 0 0) head out
-    refuses-head h = by-found (sheetOf t l rows) e (sym (judged true _ (lt-ltb (length head) 12 h) refl)) refl refl
+    refuses-head h = refused-leaves (short-head text e (length head) (length out) h)
 
-    pub refuses-room : 12 ≤ length head → length out < length (laid rows) → ReadsSheet text head out (refused 12 0 0) head out
-    refuses-room h k = by-found (sheetOf t l rows) e (sym (judged false true (le-ltb (length head) 12 h) (lt-ltb _ _ k))) refl refl
+    pub refuses-room : length out < length (laid rows) → ReadsSheet text head out (refused 12 0 0) head out
+    refuses-room h = refused-leaves (short-room text e (length head) (length out) h)
 
     pub reads-sheet : {m : ℕ} {left head-left : List ℕ} → length rows ≡ m → length (laid rows) ≡ m * (l + 1) → 12 ≤ length head → m * (l + 1) ≤ length out
         → Puts (fourBytes t ++ fourBytes m ++ fourBytes l) 0 head 12 head-left → left ≡ laid rows ++ drop (length (laid rows)) out
         → ReadsSheet text head out (done (m * (l + 1))) head-left left
     reads-sheet many count h k p z =
-        by-found (sheetOf t l rows) e (sym (judged false false (le-ltb (length head) 12 h) (le-ltb (length out) (length (laid rows)) (omega arith)) ∙ ap done count))
-        (p .leaves ∙ ap (λ n. fourBytes t ++ fourBytes n ++ fourBytes l ++ drop 12 head) (sym many)) z
+        let r = done-leaves e (room-enough text e (length head) (length out) h (omega arith)) in
+        record {
+          answers = ap done (sym count) ∙ r .answers;
+          head-leaves = p .leaves ∙ ap (λ n. fourBytes t ++ fourBytes n ++ fourBytes l ++ drop 12 head) (sym many) ∙ r .head-leaves;
+          leaves = z ∙ r .leaves;
+        }

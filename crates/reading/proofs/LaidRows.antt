@@ -1,16 +1,15 @@
 -- Rows laid together, with their lengths as bytes, can be cut apart again.
 -- Assumes nothing.
 use mathlib.Core.Path.{_≡_, refl, ap, ap₂, _∙_}
-use mathlib.Core.List.{List, [], _∷_}
+use mathlib.Core.List.{List, [], _∷_, map}
 use Prim.Native.Nat.{ℕ, _+_, _*_, _/_, _%_, _^_, _<_}
 use native.Mathlib.Omega.{arith}
-use lib.ListN.{length, length-append}
+use lib.ListN.{length, replicate, length-append}
 use Rattle.shamir.specs.Lists.{All, Below}
 use Rattle.shamir.proofs.Lists.{all-append}
 use Rattle.rows.specs.Storage.{laid}
-use Rattle.rows.specs.Lengths.{four, fours, lengthsOf}
+use Rattle.rows.specs.Lengths.{four, lengthBytes, fours, lengthsOf}
 use Rattle.reading.specs.Lines.{Row}
-use Rattle.sheets.proofs.LengthBytes.{lengthBytes}
 
 pub below-laid : (n : ℕ) (rows : List (List ℕ)) → All (Below n) rows → Below n (laid rows)
 below-laid n [] h = tt
@@ -22,7 +21,11 @@ length-laid l (row ∷ rows) h = omega (arith, length-append row (laid rows), le
 
 -- ---- their lengths
 
-four-of : (n : ℕ) → four (n % 2 ^ 8) (n / 2 ^ 8 % 2 ^ 8) (n / 2 ^ 16 % 2 ^ 8) (n / 2 ^ 24) ≡ n
+pub lengths-same : (l : ℕ) (rows : List (List ℕ)) → All (Row l) rows → map length rows ≡ replicate (length rows) (l + 1)
+lengths-same l [] h = refl
+lengths-same l (row ∷ rows) h = ap₂ _∷_ (h .0 .long) (lengths-same l rows (h .1))
+
+pub four-of : (n : ℕ) → four (n % 2 ^ 8) (n / 2 ^ 8 % 2 ^ 8) (n / 2 ^ 16 % 2 ^ 8) (n / 2 ^ 24) ≡ n
 four-of n = omega arith
 
 pub length-length-bytes : (ns : List ℕ) → length (lengthBytes ns) ≡ length ns * 4

@@ -13,4 +13,7 @@ pub mod Stops
 pub mod Unsheet
 pub mod Refusals
 pub mod Bounds
+pub mod Answers
+pub mod Accepting
+pub mod Promises
 pub mod Example

@@ -1,9 +1,9 @@
 -- The text of a first line in range and of as many rows with different identifiers is a sheet: the writer accepts them laid together.
 -- Assumes nothing.
 use mathlib.Core.Path.{_≡_, refl, sym, ap, ap₂, _∙_}
-use mathlib.Core.Bool.{true, false, _&&_}
+use mathlib.Core.Bool.{true, false}
 use mathlib.Core.List.{List, [], _∷_, map}
-use Prim.Native.Nat.{ℕ, _+_, _*_, _-_, _^_, _<_}
+use Prim.Native.Nat.{ℕ, _+_, _*_, _-_, _^_, _<_, _≤_}
 use native.Mathlib.Nat.{le-refl}
 use native.Mathlib.Omega.{arith}
 use lib.Dec.{eqb, ltb}
@@ -14,7 +14,9 @@ use Rattle.shamir.specs.Lists.{All, Below, Fresh}
 use Rattle.shamir.proofs.Lists.{all-map, all-both}
 use Rattle.rows.specs.Search.{sum, allAre, firstRepeated, placeOf, within}
 use Rattle.rows.specs.Storage.{cut, laid, identifiers}
+use Rattle.rows.specs.Lengths.{lengthBytes}
 use Rattle.rows.proofs.Search.{place-fresh, repeated-distinct, not-within}
+use Rattle.rows.proofs.Storage.{all-equal}
 use Rattle.rows.proofs.Laid.{cut-laid, sum-laid}
 use Rattle.row_set.specs.Limits.{maxSecret, maxShares}
 use Rattle.row_set.specs.RowSet.{secretLength, judged, judgedRows}
@@ -22,8 +24,7 @@ use Rattle.row_set.proofs.RowSet.{by-lengths}
 use Rattle.sheets.specs.Sheet.{sheet, sheetText, judgedThreshold, sheetAnswer}
 use Rattle.reading.specs.Unsheet.{SheetOf}
 use Rattle.reading.specs.Lines.{Head, Row, Rows}
-use Rattle.sheets.proofs.LengthBytes.{lengthBytes}
-use Rattle.reading.proofs.LaidRows.{below-laid, length-length-bytes, lengths-of, below-length-bytes}
+use Rattle.reading.proofs.LaidRows.{below-laid, lengths-same, length-length-bytes, lengths-of, below-length-bytes}
 
 module _ (l : ℕ) where
   first-long : (rows : List (List ℕ)) → 0 < length rows → All (Row l) rows → getD (map length rows) 0 0 ≡ l + 1
@@ -31,8 +32,7 @@ module _ (l : ℕ) where
   first-long (r ∷ rows) h k = k .0 .long
 
   all-long : (rows : List (List ℕ)) → All (Row l) rows → allAre (l + 1) (map length rows) ≡ true
-  all-long [] k = refl
-  all-long (r ∷ rows) k = ap₂ _&&_ (eq-eqb (length r) (l + 1) (k .0 .long)) (all-long rows (k .1))
+  all-long rows k = ap (allAre (l + 1)) (lengths-same l rows k) ∙ all-equal (l + 1) (length rows)
 
   nonzero-ids : (rows : List (List ℕ)) → All (Row l) rows → Fresh 0 (identifiers rows)
   nonzero-ids rows k = all-map (Row l) (λ a. a ≡ 0 → ⊥) (λ r. getD r 0 0) (λ r h e. omega (arith, h .nonzero)) rows k
@@ -64,21 +64,21 @@ module _ (t l : ℕ) (rows : List (List ℕ)) (h : Head t (length rows) l) (k : 
   abbrev bytes : List ℕ
   bytes = lengthBytes ns
 
-  text-is : sheet t l rows ≡ sheetText t (laid rows) bytes
+  pub text-is : sheet t l rows ≡ sheetText t (laid rows) bytes
   text-is = sym (ap (λ n. sheet t (secretLength n) (cut n (laid rows))) (lengths-of ns) ∙ ap₂ (sheet t) secret-is (cut-laid rows))
 
-  answer-is : let count = length (sheetText t (laid rows) bytes) in sheetAnswer t (laid rows) bytes count ≡ done count
+  pub answer-is : (room : ℕ) → let count = length (sheetText t (laid rows) bytes) in count ≤ room → sheetAnswer t (laid rows) bytes room ≡ done count
   unfolding sheetAnswer
-  answer-is =
+  answer-is room fits =
       let count = length (sheetText t (laid rows) bytes) in
-      let later = judgedThreshold t count count in
+      let later = judgedThreshold t room count in
       let size : length bytes ≡ length rows * 4 = length-length-bytes ns ∙ ap (_* 4) (length-map rows length) in
       let low : ltb t 2 ≡ false = le-ltb t 2 (h .threshold-least) in
       let high : ltb maxShares t ≡ false = le-ltb maxShares t (h .threshold-most) in
-      let room : ltb count count ≡ false = le-ltb count count (le-refl count) in
+      let enough : ltb room count ≡ false = le-ltb room count fits in
       sym (by-lengths 1 (laid rows) bytes later (omega arith) (omega (arith, h .rows-most))
       (sym (ap (λ n. judgedRows 1 (laid rows) n later) (lengths-of ns) ∙ judged-rows later)))
-      ∙ simp (low, high, room)
+      ∙ simp (low, high, enough)
 
   pub rows-sheet : SheetOf t l rows (sheet t l rows)
   rows-sheet = record {
@@ -90,7 +90,7 @@ module _ (t l : ℕ) (rows : List (List ℕ)) (h : Head t (length rows) l) (k : 
       count = length (sheetText t (laid rows) bytes);
       storage-bytes = below-laid 256 rows (all-both (Row l) (Row l) (Below 256) (λ r p q. p .bytes) rows (k .each) (k .each));
       length-bytes = below-length-bytes ns (all-map (Row l) (_< 2 ^ 32) length (λ r p. omega (arith, p .long, h .values-most)) rows (k .each));
-      accepted = answer-is;
+      accepted = answer-is _ (le-refl _);
       written = text-is;
     };
     threshold-is = refl;

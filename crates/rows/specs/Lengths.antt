@@ -1,6 +1,6 @@
 -- Row lengths that come as bytes, four a row, least first.
 -- Assumes nothing.
-use mathlib.Core.List.{List, [], _∷_}
+use mathlib.Core.List.{List, [], _∷_, _++_}
 use Prim.Native.Nat.{ℕ, zero, suc, _+_, _*_, _/_, _%_, _^_}
 use lib.ListN.{length, getD, drop}
 
@@ -11,6 +11,11 @@ four a b c d = a + b * 2 ^ 8 + c * 2 ^ 16 + d * 2 ^ 24
 -- the four bytes of a number, least first
 abbrev pub fourBytes : ℕ → List ℕ
 fourBytes n = n % 2 ^ 8 ∷ n / 2 ^ 8 % 2 ^ 8 ∷ n / 2 ^ 16 % 2 ^ 8 ∷ n / 2 ^ 24 ∷ []
+
+-- the fours of several numbers, one after another
+abbrev pub lengthBytes : List ℕ → List ℕ
+lengthBytes [] = []
+lengthBytes (n ∷ ns) = fourBytes n ++ lengthBytes ns
 
 -- the numbers of the first m fours
 abbrev pub fours : ℕ → List ℕ → List ℕ

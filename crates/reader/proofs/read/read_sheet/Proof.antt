@@ -49,7 +49,7 @@ returns-4 c =
     let a = c .before .before .before .before .before .before .before .before .before .before .args in
     let stands = c .before .before .before .wrong-line .ensures .right (c .before .before .if2 .left) in
     let sheet = found (c .before .before .before .before .before .before .read-head .ensures) (omega (arith, c .before .before .before .before .before .if1 .left)) (c .before .before .before .before .head-length .ensures .0) (stands .1) in
-    refuses-room (a .text .now) (a .head .now) (a .out .now) _ _ (stands .0) sheet (c .before .if3 .left) (omega (arith, c .if4 .taken, rows-long (stands .1)))
+    refuses-room (a .text .now) (a .head .now) (a .out .now) _ _ (stands .0) sheet (omega (arith, c .if4 .taken, rows-long (stands .1)))
 
 put-numbers-requires : tie.Need-put-numbers-requires
 put-numbers-requires c κs =

@@ -1,11 +1,11 @@
 -- The first line, as it is read: what stands where, if a text begins with a first line; and that nothing else passes.
 -- Assumes nothing.
-use mathlib.Core.Path.{_≡_, refl, sym, ap, ap₂, _∙_}
+use mathlib.Core.Path.{_≡_, sym, ap, _∙_}
 use mathlib.Core.Logic.{⊎-elim}
 use mathlib.Core.List.{List, [], _∷_, _++_, append-assoc}
 use Prim.Native.Nat.{ℕ, _+_, _<_}
 use native.Mathlib.Omega.{arith}
-use lib.ListN.{length, drop, length-append}
+use lib.ListN.{length, drop}
 use Rattle.row_set.specs.Limits.{maxShares, maxSecret}
 use Rattle.sheets.specs.Text.{decimal}
 use Rattle.sheets.specs.Sheet.{sealWord, headLine}

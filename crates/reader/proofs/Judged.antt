@@ -4,7 +4,7 @@ use mathlib.Core.Path.{_≡_, refl, sym, ap, ap₂, _∙_, subst}
 use mathlib.Core.Bool.{Bool, true, false}
 use mathlib.Core.List.{List, [], _∷_, _++_, append-assoc, append-nil}
 use mathlib.Core.Logic.{⊎-elim}
-use Prim.Native.Nat.{ℕ, zero, suc, _+_, _*_, _-_, _<_, _≤_}
+use Prim.Native.Nat.{ℕ, suc, _+_, _*_, _-_, _<_, _≤_}
 use native.Mathlib.Numerals.{add-one}
 use native.Mathlib.Omega.{arith}
 use lib.Dec.{eqb}
@@ -19,7 +19,7 @@ use Rattle.sheets.specs.Sheet.{rowLine, rowLines}
 use Rattle.sheets.proofs.Lines.{Writable, row-told}
 use Rattle.sheets.proofs.TextLength.{length-row-line}
 use Rattle.reading.specs.Lines.{Row, Rows}
-use Rattle.reading.specs.Unsheet.{notAt, unrows}
+use Rattle.reading.specs.Unsheet.{unrows}
 use Rattle.reading.proofs.Completed.{ids-append, rows-then, row-lines-append}
 use Rattle.reading.proofs.Beginnings.{RowBegins, row-or-not, row-right, row-wrong}
 use Rattle.reading.proofs.Unsheet.{no-rows}

@@ -1,5 +1,4 @@
 // Whether the rows of a sheet stand behind its first line, and nothing else.
-ghost use mathlib.Core.Path.{_≡_};
 ghost use Prim.Native.Nat.{_≤_};
 ghost use lib.ListN.{length};
 ghost use Rattle.row_set.specs.Limits.{maxShares, maxSecret};

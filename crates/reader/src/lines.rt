@@ -1,5 +1,4 @@
 // The lines of a sheet, as they stand in a text. Every number on a sheet is at least 1, so that 0 can say that there is none.
-ghost use mathlib.Core.Path.{_≡_};
 ghost use Prim.Native.Nat.{_<_, _≤_};
 ghost use lib.ListN.{length};
 ghost use Rattle.row_set.specs.Limits.{maxSecret};

@@ -1,6 +1,4 @@
 // A sheet is read: its lines are judged, then the room, and only then is anything written.
-ghost use mathlib.Core.Path.{_≡_};
-ghost use lib.ListN.{length};
 ghost use Rattle.answer.specs.Answers.{answerOf};
 ghost use Rattle.reading.specs.Answer.{ReadsSheet};
 use crate::decode::put_numbers;

@@ -10,7 +10,7 @@ use borrow.Author.Tests.{lt-ltb, le-ltb}
 use Rattle.answer.specs.Outcome.{Outcome, done, refused, refuse}
 use Rattle.rows.specs.Storage.{laid}
 use Rattle.rows.specs.Lengths.{fourBytes}
-use Rattle.sharing.proofs.Chains.{passed}
+use Rattle.row_set.proofs.Chains.{passed}
 use Rattle.reading.specs.Unsheet.{sheetOf, notAt, unsheet}
 use Rattle.reading.specs.Answer.{headOf, rowsOf, answerTo, leftIn, readAnswer, readHead, readRows, ReadsSheet}
 

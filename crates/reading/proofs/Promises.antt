@@ -12,9 +12,9 @@ use Rattle.rows.specs.Storage.{laid}
 use Rattle.rows.specs.Lengths.{fourBytes, lengthBytes, lengthsOf}
 use Rattle.rows.proofs.Storage.{length-cut}
 use Rattle.rows.proofs.Lengths.{length-lengths}
-use Rattle.sharing.specs.Limits.{atExit}
-use Rattle.sharing.specs.RowSet.{secretLength}
-use Rattle.sharing.proofs.Chains.{apart}
+use Rattle.row_set.specs.Limits.{atExit}
+use Rattle.row_set.specs.RowSet.{secretLength}
+use Rattle.row_set.proofs.Chains.{apart}
 use Rattle.sheets.specs.Sheet.{sheetText, sheetAnswer, sheetBytes}
 use Rattle.sheets.proofs.LengthBytes.{bytes-lengths}
 use Rattle.sheets.proofs.Accepted.{accepted-sheet}

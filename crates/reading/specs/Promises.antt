@@ -11,7 +11,7 @@ use Rattle.answer.specs.Answers.{answerOf}
 use Rattle.answer.specs.declared.Answer.{Answer}
 use Rattle.shamir.specs.Lists.{Below}
 use Rattle.rows.specs.Lengths.{fourBytes, lengthBytes, fours, lengthsOf}
-use Rattle.sharing.specs.RowSet.{secretLength}
+use Rattle.row_set.specs.RowSet.{secretLength}
 use Rattle.sheets.specs.Sheet.{sheetText, sheetAnswer, sheetBytes}
 use Rattle.reading.specs.Reading.{IsSheet, RefusedAt}
 use Rattle.reading.specs.Answer.{readAnswer, readHead, readRows, ReadsSheet}

@@ -1,9 +1,9 @@
 -- `hex_at` meets its contract: after k turns it is told whether the first k characters are digits.
 -- Assumes nothing.
 use mathlib.Core.Path.{_≡_, sym, ap, _∙_, subst}
-use Prim.Native.Nat.{_+_, _-_, _<_, _≤_}
+use Prim.Native.Nat.{_+_, _-_, _≤_}
 use native.Mathlib.Omega.{arith}
-use lib.ListN.{length, getD, drop, length-drop}
+use lib.ListN.{getD, drop, length-drop}
 use lib.Seq.{getD-drop}
 use Rattle.reader.proofs.DigitsRead.{no-yes}
 use Rattle.reader.proofs.HexTests.{Told, told-none, told-more}

@@ -1,17 +1,24 @@
--- What the program shows of a sheet: its row lines as they stand are all that is behind the first line, and the rows are no longer than the
--- text, so that the program's room is enough for every text that it reads.
+-- What the program shows of a text: document 02, §2. Of a sheet its row lines as they stand, of any other text the number 14.
 -- Assumes nothing.
 use mathlib.Core.Path.{_≡_}
 use mathlib.Core.List.{List}
 use Prim.Native.Nat.{ℕ, _≤_}
-use lib.ListN.{length}
-use Rattle.rows.specs.Storage.{laid}
+use lib.ListN.{length, drop}
 use Rattle.sheets.specs.Sheet.{rowLines}
-use Rattle.reading.specs.Unsheet.{sheetOf, afterLine, unsheet}
+use Rattle.reading.specs.Reading.{IsSheet}
+use Rattle.reading.specs.Unsheet.{SheetOf}
+use Rattle.sheet_rows.specs.declared.Output.{Output}
+use Rattle.sheet_rows.specs.declared.Output.the-variants.{From, Number}
 
-pub record Shown (text : List ℕ) (rows : List (List ℕ)) : Type 0 where
-  pub lines : afterLine text ≡ rowLines rows
-  pub room : length (laid rows) ≤ length text
+-- from this place on stand the lines of the rows of which the text is a sheet, and nothing else
+pub record RowLinesFrom (text : List ℕ) (at : ℕ) : Type 0 where
+  pub threshold : ℕ
+  pub values : ℕ
+  pub rows : List (List ℕ)
+  pub is-sheet : SheetOf threshold values rows text
+  pub inside : at ≤ length text
+  pub lines : drop at text ≡ rowLines rows
 
-abbrev pub ShownRight : Type 0
-ShownRight = (text : List ℕ) (t l : ℕ) (rows : List (List ℕ)) → unsheet text ≡ sheetOf t l rows → Shown text rows
+abbrev pub ShowsRight : List ℕ → Output → Type 0
+ShowsRight text (From at) = RowLinesFrom text at
+ShowsRight text (Number n) = (n ≡ 14) × (IsSheet text → ⊥)

@@ -1,9 +1,11 @@
 // Reads a sheet from standard input and prints its row lines as they stand, or the number of the refusal alone on a line, or, where the
-// text has more than 48 KiB, the line `too large`. An input that cannot be read is one without a byte.
+// text has more than 48 KiB, the line `too large`. Where the input cannot be read any further, it
+// ends there.
 ghost use mathlib.Core.Path.{_≡_};
 ghost use Prim.Native.Nat.{_≤_};
 ghost use lib.ListN.{length, drop};
 ghost use Rattle.reading.specs.Unsheet.{afterLine};
+ghost use Rattle.sheet_rows.specs.Shown.{ShowsRight};
 use answer::Answer;
 use libc::STDIN_FILENO;
 use libc::STDOUT_FILENO;
@@ -35,6 +37,13 @@ fn say(text: &[u8]) {
     io::write_all(STDOUT_FILENO, text);
 }
 
+// All from a place on, and nothing where there is no such place.
+fn say_from(text: &[u8], at: usize) {
+    if at <= text.len() {
+        say(&text[at..]);
+    }
+}
+
 // The place behind the first line.
 fn behind_first_line(text: &[u8]) -> usize
     ensures { λ r. ⌜ (r ≤ length (now (text .entry))) × (drop r (now (text .entry)) ≡ afterLine (now (text .entry))) ⌝ }
@@ -49,17 +58,33 @@ fn behind_first_line(text: &[u8]) -> usize
     at
 }
 
-fn show(text: &[u8]) {
+// What is shown of a text: all from a place on, or a number.
+enum Output {
+    From(usize),
+    Number(u64),
+}
+
+// Of a sheet its row lines, of any other text 14: the room is enough for every text that is read.
+fn output_of(text: &[u8]) -> Output
+    requires { ⌜ length (now text) ≤ 49152 ⌝ }
+    ensures { λ r. ⌜ ShowsRight (now (text .entry)) r ⌝ }
+{
     let mut head = head_bytes();
     let mut rows = row_bytes();
     let answer = reader::read_sheet(text, &mut head, &mut rows);
     match answer {
-        Answer::Done(_) => {
-            let at = behind_first_line(text);
-            say(&text[at..]);
-        }
-        Answer::Refused(reason) => {
-            io::print_decimal(STDOUT_FILENO, reason.number());
+        Answer::Done(_) => Output::From(behind_first_line(text)),
+        Answer::Refused(reason) => Output::Number(reason.number()),
+    }
+}
+
+fn show(text: &[u8])
+    requires { ⌜ length (now text) ≤ 49152 ⌝ }
+{
+    match output_of(text) {
+        Output::From(at) => say_from(text, at),
+        Output::Number(n) => {
+            io::print_decimal(STDOUT_FILENO, n);
             say(b"\n");
         }
     }

@@ -1,3 +1,2 @@
-pub mod Zero
-pub mod Wrap
+pub use Rattle.zero.specs.Zero
 pub mod Small

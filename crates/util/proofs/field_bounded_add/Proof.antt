@@ -10,7 +10,7 @@ use lib.Bits.{bitAnd, and-mask, and-zero-r, mask-lt}
 use lib.Dec.{ltb, leb}
 use mir.Syntax.{w8}
 use mir.Val.{boolByte}
-use Rattle.util.specs.Wrap.{wrappedNeg}
+use Rattle.signs.specs.Wrap.{wrappedNeg}
 use Rattle.util.proofs.field_bounded_add.Statement.{statement}
 use Rattle.util.proofs.field_bounded_add.Tie as tie
 

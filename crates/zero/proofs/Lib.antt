@@ -1,0 +1,3 @@
+pub mod Mask
+pub mod Answers
+pub mod Bytes

@@ -32,6 +32,12 @@ fn id_bytes() -> [u8; 300]
     [0; 300]
 }
 
+fn text_bytes() -> [u8; 16000]
+    ensures { λ r. ⌜ 16000 ≡ length r ⌝ }
+{
+    [0; 16000]
+}
+
 fn row_bytes() -> [u8; 140000]
     ensures { λ r. ⌜ 140000 ≡ length r ⌝ }
 {
@@ -183,6 +189,39 @@ fn sheet_rows(line: &[u8]) -> Filled {
     sheet_lengths(line, &rows[..n])
 }
 
+fn read(text: &[u8], head: &mut [u8], out: &mut [u8]) -> Filled {
+    let word = vsss::vsss_read_sheet(text, head, out);
+    print::answer_with_head(word, head, out);
+    Filled::Bytes(out.len())
+}
+
+fn read_room(line: &[u8], text: &[u8], head: &mut [u8]) -> Filled {
+    let mut out = output_bytes();
+    let filled = room(line, 3, &out);
+    let Filled::Bytes(n) = filled else {
+        return filled;
+    };
+    read(text, head, &mut out[..n])
+}
+
+fn read_head(line: &[u8], text: &[u8]) -> Filled {
+    let mut head = output_bytes();
+    let filled = room(line, 2, &head);
+    let Filled::Bytes(n) = filled else {
+        return filled;
+    };
+    read_room(line, text, &mut head[..n])
+}
+
+fn read_text(line: &[u8]) -> Filled {
+    let mut text = text_bytes();
+    let filled = parse::bytes_at(line, 1, &mut text);
+    let Filled::Bytes(n) = filled else {
+        return filled;
+    };
+    read_head(line, &text[..n])
+}
+
 // Whether the line begins so and has so many spaces.
 fn is_call(line: &[u8], start: &[u8], spaces: usize) -> bool {
     parse::starts_with(line, start) && parse::count(line, b' ') == spaces
@@ -197,6 +236,9 @@ fn answered(line: &[u8]) -> Filled {
     }
     if is_call(line, b"sheet ", 4) {
         return sheet_rows(line);
+    }
+    if is_call(line, b"read ", 3) {
+        return read_text(line);
     }
     Filled::Unreadable
 }

@@ -4,14 +4,15 @@
 //   split T N SECRET IDS COEFFICIENTS ROOM
 //   combine ROWS LENGTHS ROOM
 //   sheet T ROWS LENGTHS ROOM
-// T, N and ROOM are hexadecimal numbers below 2^64. The others are byte strings: - is empty, else items joined by +, each of two
-// digits a byte, with * and a hexadecimal count from 1 behind them where they are to be repeated. Digits are in lower case.
-// The output has ROOM bytes, all ee at first. The answer is one of
-//   done COUNT BYTES            the whole output in digits, where it has at most 64 bytes
-//   done COUNT sum CHECKSUM     where it has more
-//   refused NUMBER FIRST SECOND with ` changed` behind it where the output is no longer ee throughout
+//   read TEXT HEADROOM ROOM
+// T, N, HEADROOM and ROOM are hexadecimal numbers below 2^64. The others are byte strings: - is empty, else items joined by +, each of
+// two digits a byte, with * and a hexadecimal count from 1 behind them where they are to be repeated. Digits are in lower case.
+// The output has ROOM bytes, the head of read HEADROOM, all ee at first. The answer is one of
+//   done COUNT OUTPUT           or, for read, done COUNT HEAD OUTPUT
+//   refused NUMBER FIRST SECOND with ` changed` behind it where output or head is no longer ee throughout
 //   unreadable                  the line is no call
 //   too large                   a field has more bytes than this program keeps for it
+// OUTPUT and HEAD are the whole of it in digits, where it has at most 64 bytes, and `sum CHECKSUM` where it has more.
 // Where more than one field is at fault the first from the left decides, but for T and N, which are read last. A text that is too long
 // as a whole is not run: `input too large`.
 ghost use mathlib.Core.Path.{_≡_};

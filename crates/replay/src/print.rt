@@ -2,8 +2,11 @@
 ghost use Prim.Native.Nat.{_<_};
 use libc::STDOUT_FILENO;
 
-// What the output holds before a call.
+// What lent memory holds before a call.
 pub const UNTOUCHED: u8 = 0xee;
+
+// Words from here on are refusals, the others counts.
+const REFUSALS: u64 = 0x100_0000_0000;
 
 pub fn say(text: &[u8]) {
     io::write_all(STDOUT_FILENO, text);
@@ -50,8 +53,8 @@ fn is_touched(s: &[u8]) -> bool {
     false
 }
 
-// The output at exit, where it is short enough to read, else its checksum.
-fn output(s: &[u8]) {
+// Lent memory at exit, where it is short enough to read, else its checksum.
+fn memory(s: &[u8]) {
     if s.len() <= 64 {
         say(b" ");
         hex(s);
@@ -61,23 +64,38 @@ fn output(s: &[u8]) {
     }
 }
 
-fn refused(word: u64) {
+fn done(count: u64) {
+    say(b"done");
+    number(count);
+}
+
+fn refused(word: u64, touched: bool) {
     say(b"refused");
-    number(word / 0x100_0000_0000);
+    number(word / REFUSALS);
     number(word / 0x1_0000 % 0x100_0000);
     number(word % 0x1_0000);
+    if touched {
+        say(b" changed");
+    }
 }
 
 // The word that an entry gave back, and the output that it left.
 pub fn answer(word: u64, out: &[u8]) {
-    if word < 0x100_0000_0000 {
-        say(b"done");
-        number(word);
-        output(out);
-        return;
+    if word < REFUSALS {
+        done(word);
+        memory(out);
+    } else {
+        refused(word, is_touched(out));
     }
-    refused(word);
-    if is_touched(out) {
-        say(b" changed");
+}
+
+// The same where a head was lent as well.
+pub fn answer_with_head(word: u64, head: &[u8], out: &[u8]) {
+    if word < REFUSALS {
+        done(word);
+        memory(head);
+        memory(out);
+    } else {
+        refused(word, is_touched(head) || is_touched(out));
     }
 }

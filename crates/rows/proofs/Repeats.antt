@@ -18,10 +18,10 @@ use Rattle.rows.proofs.Search.{fresh-of, place-fresh, not-within, place
 -- ---- one row
 
 module _ (met : List ℕ) (x : ℕ) (ids : List ℕ) where
-  abbrev judged : Bool → ℕ
+  abbrev pub judged : Bool → ℕ
   judged b = cond b 0 (suc (repeatingBehind (met ++ (x ∷ [])) ids))
 
-  on-the-table : (Fresh x met → ⊥) → repeatingBehind met (x ∷ ids) ≡ 0
+  pub on-the-table : (Fresh x met → ⊥) → repeatingBehind met (x ∷ ids) ≡ 0
   on-the-table n = by-test (within (placeOf x met) met) refl
     where
       by-test : (b : Bool) → within (placeOf x met) met ≡ b → judged (within (placeOf x met) met) ≡ 0

@@ -14,7 +14,8 @@ use Rattle.shamir.specs.Rows.{combined}
 use Rattle.gf256.specs.Field256.{gf256}
 use Rattle.rows.specs.Search.{sum, allAre, placeOf, firstRepeated, within}
 use Rattle.rows.specs.Storage.{cut, laid, identifiers, values}
-use Rattle.rows.proofs.Search.{place-fresh, repeated-distinct, not-within}
+use Rattle.rows.proofs.Search.{place-fresh, not-within}
+use Rattle.rows.proofs.Repeats.{repeated-distinct}
 use Rattle.rows.proofs.Laid.{cut-laid, sum-laid}
 use Rattle.row_set.specs.Limits.{maxSecret}
 use Rattle.row_set.specs.RowSet.{judged}

@@ -20,7 +20,7 @@ use Rattle.reading.proofs.Completed.{ids-append, rows-then, row-lines-append}
 use Rattle.reading.proofs.Beginnings.{RowBegins, row-or-not, row-right, row-wrong}
 use Rattle.reading.proofs.Unsheet.{no-rows}
 use Rattle.reader.specs.Taking.{rowAt, RowAt, LinesAt}
-use Rattle.reader.proofs.Seen.{Seen, seen-none, seen-more}
+use Rattle.rows.proofs.Marks.{Seen, seen-none, seen-more}
 
 -- the lines before line, up to next, are those of right rows, and the text is read on from there
 pub record ReadTo (text : List ℕ) (at m l : ℕ) (seen : List ℕ) (line next : ℕ) : Type 0 where

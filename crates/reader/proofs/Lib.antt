@@ -4,7 +4,6 @@ pub mod WordRead
 pub mod FieldRead
 pub mod HeadLineRead
 pub mod RowLineRead
-pub mod Seen
 pub mod Judged
 pub mod Decoded
 pub mod RowDecoded

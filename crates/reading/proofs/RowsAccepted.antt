@@ -11,7 +11,8 @@ use Rattle.shamir.proofs.Lists.{all-map, all-both, all-at}
 use Rattle.rows.specs.Search.{sum, firstZero, firstRepeated}
 use Rattle.rows.specs.Storage.{cut, identifiers}
 use Rattle.rows.specs.Lengths.{lengthsOf}
-use Rattle.rows.proofs.Search.{fresh-of, distinct-of}
+use Rattle.rows.proofs.Search.{fresh-of}
+use Rattle.rows.proofs.Repeats.{distinct-of}
 use Rattle.rows.proofs.Storage.{sum-replicate, length-cut}
 use Rattle.rows.proofs.Lengths.{length-lengths}
 use Rattle.rows.proofs.Pigeonhole.{pigeonhole}

@@ -15,7 +15,8 @@ use Rattle.shamir.proofs.Lists.{all-map, all-both}
 use Rattle.rows.specs.Search.{sum, allAre, firstRepeated, placeOf, within}
 use Rattle.rows.specs.Storage.{cut, laid, identifiers}
 use Rattle.rows.specs.Lengths.{lengthBytes}
-use Rattle.rows.proofs.Search.{place-fresh, repeated-distinct, not-within}
+use Rattle.rows.proofs.Search.{place-fresh, not-within}
+use Rattle.rows.proofs.Repeats.{repeated-distinct}
 use Rattle.rows.proofs.Storage.{all-equal}
 use Rattle.rows.proofs.Laid.{cut-laid, sum-laid}
 use Rattle.row_set.specs.Limits.{maxSecret, maxShares}

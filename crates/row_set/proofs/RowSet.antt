@@ -17,6 +17,7 @@ use Rattle.rows.specs.Combining.{Ready}
 use Rattle.strides.proofs.Strides.{length-strided}
 use Rattle.rows.proofs.Lengths.{length-lengths}
 use Rattle.rows.proofs.Storage.{equal-lengths, sum-replicate, column-strided}
+use Rattle.rows.proofs.Repeats.{repeated-within, outside-both}
 use Rattle.row_set.specs.Limits.{maxSecret, maxRows}
 use Rattle.row_set.specs.RowSet.{firstLength, secretLength, judgedIdentifiers, judged, judgedRows, unreadable, judgedByteLengths}
 use Rattle.row_set.proofs.Chains.{Chain, end, then, passed}
@@ -98,15 +99,15 @@ module _ (s : List ℕ) (w m : ℕ) where
     no-zero : within (firstZero ids) ids ≡ false
     no-zero = le-ltb (firstZero ids) (length ids) (omega (arith, count))
 
-    pub repeat-found : (i j : ℕ) → i ≡ firstRepeated ids → j ≡ firstRepeating ids → i < m → refused 7 i j ≡ answer
+    pub repeat-found : (i j : ℕ) → i ≡ firstRepeated ids → j ≡ firstRepeating ids → j < m → refused 7 i j ≡ answer
     repeat-found i j ei ej h =
         let t : answer ≡ refused 7 (firstRepeated ids) (firstRepeating ids) =
-        simp (no-zero, lt-ltb (firstRepeated ids) (length ids) (omega (arith, count))) in
+        simp (no-zero, lt-ltb (firstRepeated ids) (length ids) (repeated-within ids (omega (arith, count)))) in
         ap₂ (refused 7) ei ej ∙ sym t
 
-    module _ {i : ℕ} (again : i ≡ firstRepeated ids) (past-all : m ≤ i) where
+    module _ {j : ℕ} (again : j ≡ firstRepeating ids) (past-all : m ≤ j) where
       no-repeat : within (firstRepeated ids) ids ≡ false
-      no-repeat = le-ltb (firstRepeated ids) (length ids) (omega (arith, count))
+      no-repeat = outside-both ids (omega (arith, count))
 
       pub too-long : maxSecret < w - 1 → refused 10 0 0 ≡ answer
       too-long h = sym (simp (no-zero, no-repeat, lt-ltb _ _ h))

@@ -26,12 +26,12 @@ fn judge_equal_rows(rows: &[u8], w: usize, m: usize) -> Answer
     ensures { λ r. ⌜ answerOf r ≡ judgedIdentifiers (w - 1) (strided w 0 m (now (rows .entry))) (done (w - 1)) ⌝ }
 {
     let z = rows::find(rows, w, m, 0, 0);
-    let i = rows::first_repeated(rows, w, m);
+    let j = rows::first_repeating(rows, w, m);
     if z < m {
         return Answer::Refused(Reason::SharingInvalidIdentifier(z));
     }
-    if i < m {
-        let j = rows::first_repeating(rows, w, m, i);
+    if j < m {
+        let i = rows::first_repeated(rows, w, m, j);
         return Answer::Refused(Reason::SharingDuplicateIdentifier(i, j));
     }
     let l = w - 1;

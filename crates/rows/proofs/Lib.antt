@@ -1,9 +1,11 @@
 pub mod Lengths
 pub mod Storage
 pub mod Laid
-pub mod Search
-pub mod Pigeonhole
 pub mod Marks
+pub mod Search
+pub mod Repeats
+pub mod FirstRepeat
+pub mod Pigeonhole
 pub mod Ready
 pub mod Coefficients
 pub mod Sums

@@ -9,7 +9,8 @@ use Rattle.strides.specs.Strides.{strided}
 use Rattle.rows.specs.Combining.{Ready}
 use Rattle.strides.proofs.Strides.{length-strided}
 use Rattle.rows.proofs.Storage.{strided-lt}
-use Rattle.rows.proofs.Search.{fresh-of, distinct-of}
+use Rattle.rows.proofs.Search.{fresh-of}
+use Rattle.rows.proofs.Repeats.{distinct-of}
 use Rattle.rows.proofs.Pigeonhole.{pigeonhole}
 
 module _ (w m : ℕ) (s : List ℕ) (r : Ready w m s) where

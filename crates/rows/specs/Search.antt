@@ -2,10 +2,10 @@
 -- length of the list.
 -- Assumes nothing.
 use mathlib.Core.Bool.{Bool, true, cond, _&&_}
-use mathlib.Core.List.{List, [], _∷_}
+use mathlib.Core.List.{List, [], _∷_, _++_}
 use Prim.Native.Nat.{ℕ, suc, _+_}
 use lib.Dec.{eqb, ltb}
-use lib.ListN.{length, getD, drop}
+use lib.ListN.{length, getD}
 
 abbrev pub sum : List ℕ → ℕ
 sum [] = 0
@@ -25,17 +25,24 @@ placeOf x (a ∷ xs) = cond (eqb a x) 0 (suc (placeOf x xs))
 abbrev pub firstZero : List ℕ → ℕ
 firstZero ids = placeOf 0 ids
 
--- refusal 7: the least place whose identifier stands again after it, ..
-abbrev pub firstRepeated : List ℕ → ℕ
-firstRepeated [] = 0
-firstRepeated (x ∷ ids) = cond (ltb (placeOf x ids) (length ids)) 0 (suc (firstRepeated ids))
-
--- .. and the least place after it at which it does
-abbrev pub firstRepeating : List ℕ → ℕ
-firstRepeating ids =
-    let i = firstRepeated ids in
-    i + 1 + placeOf (getD ids i 0) (drop (i + 1) ids)
-
 -- whether a place was found
 abbrev pub within : ℕ → List ℕ → Bool
 within place xs = ltb place (length xs)
+
+-- the first place of ids at which something stands that is among met or stands before it
+abbrev pub repeatingBehind : List ℕ → List ℕ → ℕ
+repeatingBehind met [] = 0
+repeatingBehind met (x ∷ ids) =
+    let later = repeatingBehind (met ++ (x ∷ [])) ids in
+    cond (within (placeOf x met) met) 0 (suc later)
+
+-- refusal 7, as document 02, §5, has it: rows are laid down in order, up to the first whose identifier is on the table already. This is
+-- the place of that row, ..
+abbrev pub firstRepeating : List ℕ → ℕ
+firstRepeating ids = repeatingBehind [] ids
+
+-- .. and this the place before it that it repeats
+abbrev pub firstRepeated : List ℕ → ℕ
+firstRepeated ids =
+    let j = firstRepeating ids in
+    cond (within j ids) (placeOf (getD ids j 0) ids) j

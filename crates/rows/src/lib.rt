@@ -119,62 +119,34 @@ pub fn find(rows: &[u8], w: usize, m: usize, x: u8, from: usize) -> usize
     i
 }
 
-// Whether no identifier comes twice: one pass, with a mark for each that was met. Only its yes is relied on.
-fn all_distinct(rows: &[u8], w: usize, m: usize) -> bool
+// Refusal 7: its second place, the first row whose identifier was met before; m where there is none. One pass, with a mark for each
+// identifier that was met: it ends by row 256 at the latest, since there are no more bytes.
+pub fn first_repeating(rows: &[u8], w: usize, m: usize) -> usize
     requires { ⌜ (m * w ≤ length (now rows)) × (0 < w) ⌝ }
-    ensures { λ r. ⌜ (r ≡ true → Distinct (strided w 0 m (now (rows .entry)))) ⌝ }
-{
-    let mut seen = [0u8; BYTES];
-    let mut i = 0;
-    let mut at = 0;
-    while i < m {
-        let x = rows[at] as usize;
-        if seen[x] != 0 {
-            return false;
-        }
-        seen[x] = 1;
-        i += 1;
-        at += w;
-    }
-    true
-}
-
-// The first row whose identifier comes again, m where there is none: each is sought among those after it.
-fn search_repeated(rows: &[u8], w: usize, m: usize) -> usize
-    requires { ⌜ (m * w ≤ length (now rows)) × (0 < w) ⌝ }
-    ensures { λ r. ⌜ r ≡ firstRepeated (strided w 0 m (now (rows .entry))) ⌝ }
-{
-    let mut i = 0;
-    let mut at = 0;
-    while i < m {
-        let j = find(rows, w, m, rows[at], i + 1);
-        if j < m {
-            return i;
-        }
-        i += 1;
-        at += w;
-    }
-    i
-}
-
-// Refusal 7: its first place, m where there is none. The search is left out for rows that one pass finds distinct.
-pub fn first_repeated(rows: &[u8], w: usize, m: usize) -> usize
-    requires { ⌜ (m * w ≤ length (now rows)) × (0 < w) ⌝ }
-    ensures { λ r. ⌜ r ≡ firstRepeated (strided w 0 m (now (rows .entry))) ⌝ }
-{
-    if all_distinct(rows, w, m) {
-        return m;
-    }
-    search_repeated(rows, w, m)
-}
-
-// .. and its second place, once the first is found.
-pub fn first_repeating(rows: &[u8], w: usize, m: usize, i: usize) -> usize
-    requires { ⌜ (i < m) × (m * w ≤ length (now rows)) × (0 < w) × (i ≡ firstRepeated (strided w 0 m (now rows))) ⌝ }
     ensures { λ r. ⌜ r ≡ firstRepeating (strided w 0 m (now (rows .entry))) ⌝ }
 {
-    let at = i * w;
-    find(rows, w, m, rows[at], i + 1)
+    let mut seen = [0u8; BYTES];
+    let mut j = 0;
+    let mut at = 0;
+    while j < m {
+        let x = rows[at] as usize;
+        if seen[x] != 0 {
+            return j;
+        }
+        seen[x] = 1;
+        j += 1;
+        at += w;
+    }
+    j
+}
+
+// .. and its first place, once the second is found: where that identifier stands first.
+pub fn first_repeated(rows: &[u8], w: usize, m: usize, j: usize) -> usize
+    requires { ⌜ (j < m) × (m * w ≤ length (now rows)) × (0 < w) × (j ≡ firstRepeating (strided w 0 m (now rows))) ⌝ }
+    ensures { λ r. ⌜ r ≡ firstRepeated (strided w 0 m (now (rows .entry))) ⌝ }
+{
+    let at = j * w;
+    find(rows, w, m, rows[at], 0)
 }
 
 fn product(xs: &[u8]) -> u8

@@ -15,7 +15,7 @@ use Rattle.rows.specs.Search.{sum, allAre, firstZero, firstRepeated, within}
 use Rattle.rows.specs.Storage.{cut, identifiers}
 use Rattle.rows.specs.Lengths.{lengthsOf}
 use Rattle.rows.proofs.Lengths.{length-lengths}
-use Rattle.rows.proofs.Search.{repeating-within}
+use Rattle.rows.proofs.Repeats.{repeating-within}
 use Rattle.rows.proofs.Storage.{length-cut}
 use Rattle.row_set.specs.Limits.{maxSecret, maxShares, maxRows}
 use Rattle.row_set.specs.RowSet.{firstLength, secretLength, judged, unreadable}

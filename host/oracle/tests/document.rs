@@ -109,6 +109,11 @@ fn combine_bounds() {
         combine_bytes(&[1, 9, 1, 9, 0, 9], &[2; 3]).0,
         Outcome::refused_at(6, 2, 0)
     );
+    // The first row whose identifier is on the table already, though 5 lies there before 7.
+    assert_eq!(
+        combine_bytes(&[5, 9, 7, 9, 7, 9, 5, 9], &[2; 4]).0,
+        Outcome::refused_at(7, 1, 2)
+    );
     assert_eq!(
         combine(&[1, 9, 8, 2, 9, 8], &[3; 2], &mut [0; 1]),
         refused(12)

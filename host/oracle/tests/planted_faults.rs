@@ -1,15 +1,20 @@
 //! Wrong implementations, each of which the comparison has to find: document 01's 'wrong notes that
 //! look right', and faults of memory.
 
+mod pair;
+
 use oracle::Outcome::{self, Done};
-use oracle::generate::{boundary_calls, random_call};
+use oracle::generate::{boundary_calls, random_call, short_calls};
 use oracle::{Random, Sharing, compare, reference};
 
-/// The boundary calls and some random ones: enough to find what is planted here.
+/// The boundary calls, some random ones and the short ones: enough to find what is planted here.
 fn faults_of(sharing: &dyn Sharing) -> u64 {
     let mut random = Random::from_seed(7);
     let some = (0..2000).map(|_| random_call(&mut random));
-    let calls = boundary_calls().into_iter().chain(some);
+    let calls = boundary_calls()
+        .into_iter()
+        .chain(some)
+        .chain(short_calls(7));
     compare::run_calls(sharing, calls, 7).tally.faults
 }
 
@@ -156,6 +161,16 @@ fn a_wrong_place() {
             outcome => outcome,
         },
     );
+    assert!(found > 0);
+}
+
+#[test]
+fn the_pair_of_document_01() {
+    let found = with_combine(|rows, lengths, out| {
+        let outcome = reference::combine(rows, lengths, out);
+        let width = lengths.first().copied().unwrap_or(0);
+        pair::by_the_first_place(outcome, rows, width)
+    });
     assert!(found > 0);
 }
 

@@ -1,6 +1,8 @@
 //! Document 02's sheets: the plain reading, the stored sheets, and wrong writers that the comparison
 //! has to find.
 
+mod pair;
+
 use oracle::Outcome::{self, Done};
 use oracle::compare::sheets;
 use oracle::reference::write_sheet;
@@ -47,7 +49,7 @@ fn what_is_refused_in_which_order() {
     assert_eq!(refusal(0, &[0, 9, 0], &[2, 1]), refused(8));
     let zero = Outcome::refused_at(6, 2, 0);
     assert_eq!(refusal(0, &[5, 9, 5, 9, 0, 9], &[2; 3]), zero);
-    let twice = Outcome::refused_at(7, 0, 3);
+    let twice = Outcome::refused_at(7, 1, 2);
     assert_eq!(refusal(0, &[5, 9, 7, 9, 7, 9, 5, 9], &[2; 4]), twice);
     assert_eq!(refusal(0, &[1; 4098], &[4098]), refused(10));
     assert_eq!(refusal(1, &[1, 9], &[2]), refused(4));
@@ -204,6 +206,15 @@ fn wrong_places_are_found() {
         Outcome::Refused { number: 6, .. } => Outcome::refused(6),
         outcome => outcome,
     }));
+    // The pair of document 01.
+    let found = faults(|threshold, rows, lengths, out| {
+        let outcome = write_sheet(threshold, rows, lengths, out);
+        let width = lengths
+            .first_chunk()
+            .map_or(0, |four| u32::from_le_bytes(*four));
+        pair::by_the_first_place(outcome, rows, width).to_word()
+    });
+    assert!(found > 0);
 }
 
 #[test]

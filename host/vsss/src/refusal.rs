@@ -34,9 +34,9 @@ pub enum Refusal {
     },
     /// 7: two rows of a set carry one identifier. Split never gives it.
     SharingDuplicateIdentifier {
-        /// The least place whose identifier stands again further on.
+        /// The place before it with that identifier.
         first: usize,
-        /// The next place with that identifier.
+        /// The least place whose identifier stands before it.
         second: usize,
     },
     /// 8: the first row has under 2 bytes, or the rows differ in length.

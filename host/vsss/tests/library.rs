@@ -197,7 +197,7 @@ fn combine_refuses_in_its_order_and_changes_nothing() {
         (&[0, 0], &[1, 1], Refusal::InvalidShare),
         (&[0, 1, 0], &[2, 1], Refusal::InvalidShare),
         (&[5, 1, 5, 1, 0, 1, 0, 1], &[2, 2, 2, 2], zero(2)),
-        (&[3, 1, 5, 1, 5, 1, 3, 1], &[2, 2, 2, 2], twice(0, 3)),
+        (&[5, 1, 7, 1, 7, 1, 5, 1], &[2, 2, 2, 2], twice(1, 2)),
         (&[3, 1, 5, 1, 5, 1, 5, 1], &[2, 2, 2, 2], twice(1, 2)),
         (&[1, 1, 2, 1], &[2, 2], Refusal::NoRoom),
     ];
@@ -307,7 +307,7 @@ fn a_sheet_is_refused_in_its_order_and_changes_nothing() {
         (0, &[0, 0], &[1, 1], Refusal::InvalidShare),
         (0, &[0, 1, 0], &[2, 1], Refusal::InvalidShare),
         (0, &[5, 1, 5, 1, 0, 1, 0, 1], &[2, 2, 2, 2], zero(2)),
-        (0, &[3, 1, 5, 1, 5, 1, 3, 1], &[2, 2, 2, 2], twice(0, 3)),
+        (0, &[5, 1, 7, 1, 7, 1, 5, 1], &[2, 2, 2, 2], twice(1, 2)),
         (0, &long, &[4098, 4098], twice(0, 1)),
         (0, longer_than_any, &[4098], Refusal::TooLong),
         (1, &[9, 1], &[2], Refusal::SharingMinThreshold),

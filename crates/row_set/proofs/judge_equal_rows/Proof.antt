@@ -10,8 +10,8 @@ use Rattle.row_set.proofs.judge_equal_rows.Tie as tie
 find-requires : tie.Need-find-requires
 find-requires c κs = let s = c .before in (omega arith, omega (arith, s .pre .0), omega (arith, s .pre .1))
 
-first-repeated-requires : tie.Need-first-repeated-requires
-first-repeated-requires c κs = search needs
+first-repeating-requires : tie.Need-first-repeating-requires
+first-repeating-requires c κs = search needs
 
 returns : tie.Need-returns
 returns c =
@@ -19,17 +19,17 @@ returns c =
     let a = sought .before .before .args in
     zero-found (a .rows .now) (a .w) (a .m) _ (sought .find .ensures) (c .if1 .taken)
 
-first-repeating-requires : tie.Need-first-repeating-requires
-first-repeating-requires c κs = search needs
+first-repeated-requires : tie.Need-first-repeated-requires
+first-repeated-requires c κs = search needs
 
 returns-2 : tie.Need-returns-2
 returns-2 c =
     let second = c .before in
     let first = second .before in
-    let repeated = first .before in
-    let sought = repeated .before in
+    let repeating = first .before in
+    let sought = repeating .before in
     let a = sought .before .before .args in
-    repeat-found (a .rows .now) (a .w) (a .m) (sought .find .ensures) (first .if1 .left) _ _ (repeated .first-repeated .ensures) (c .first-repeating .ensures) (second .if2 .taken)
+    repeat-found (a .rows .now) (a .w) (a .m) (sought .find .ensures) (first .if1 .left) _ _ (c .first-repeated .ensures) (repeating .first-repeating .ensures) (second .if2 .taken)
 
 sub-l : tie.Need-sub-l
 sub-l c = search needs
@@ -38,28 +38,28 @@ returns-3 : tie.Need-returns-3
 returns-3 c =
     let second = c .before in
     let first = second .before in
-    let repeated = first .before in
-    let sought = repeated .before in
+    let repeating = first .before in
+    let sought = repeating .before in
     let a = sought .before .before .args in
-    too-long (a .rows .now) (a .w) (a .m) (sought .find .ensures) (first .if1 .left) (repeated .first-repeated .ensures) (second .if2 .left) (c .if3 .taken)
+    too-long (a .rows .now) (a .w) (a .m) (sought .find .ensures) (first .if1 .left) (repeating .first-repeating .ensures) (second .if2 .left) (c .if3 .taken)
 
 returns-4 : tie.Need-returns-4
 returns-4 c =
     let second = c .before in
     let first = second .before in
-    let repeated = first .before in
-    let sought = repeated .before in
+    let repeating = first .before in
+    let sought = repeating .before in
     let a = sought .before .before .args in
-    all-well (a .rows .now) (a .w) (a .m) (sought .find .ensures) (first .if1 .left) (repeated .first-repeated .ensures) (second .if2 .left) (c .if3 .left)
+    all-well (a .rows .now) (a .w) (a .m) (sought .find .ensures) (first .if1 .left) (repeating .first-repeating .ensures) (second .if2 .left) (c .if3 .left)
 
 pub judge-equal-rows-spec : {M : Type 1} → statement M
 judge-equal-rows-spec =
     tie.close
     (tie.spec
     find-requires
-    first-repeated-requires
-    returns
     first-repeating-requires
+    returns
+    first-repeated-requires
     returns-2
     sub-l
     returns-3

@@ -8,7 +8,8 @@ pub fn short_calls(seed: u64) -> impl Iterator<Item = Call> {
     let splits = split_shapes(seed).chain(split_values());
     let combines = combine_shapes(seed)
         .chain(combine_pairs(seed))
-        .chain(combine_triples(seed));
+        .chain(combine_triples(seed))
+        .chain(combine_fours(seed));
     splits.map(Call::Split).chain(combines.map(Call::Combine))
 }
 
@@ -114,6 +115,16 @@ fn combine_triples(seed: u64) -> impl Iterator<Item = CombineCall> {
     let mut random = Random::from_seed(seed);
     (0..1 << 12).map(move |triple: u16| {
         let ids = [0, 4, 8].map(|bit| (triple >> bit & 15) as u8);
+        rows_with_ids(&ids, 1, &mut random)
+    })
+}
+
+/// Four rows with every list of identifiers below 8: the fewest in which one repeat can lie around
+/// another.
+fn combine_fours(seed: u64) -> impl Iterator<Item = CombineCall> {
+    let mut random = Random::from_seed(seed);
+    (0..1 << 12).map(move |four: u16| {
+        let ids = [0, 3, 6, 9].map(|bit| (four >> bit & 7) as u8);
         rows_with_ids(&ids, 1, &mut random)
     })
 }

@@ -92,10 +92,12 @@ pub(super) fn threshold_refusal(threshold: usize) -> Option<Outcome> {
     }
 }
 
-/// The least place whose identifier comes again, and the least place after it where it does.
+/// Lays rows down in order. The second place is that of the first row whose identifier is on the
+/// table already; the first place is where it lies there.
 fn first_repeat(ids: &[u8]) -> Option<(usize, usize)> {
-    ids.iter().enumerate().find_map(|(first, id)| {
-        let after = ids[first + 1..].iter().position(|other| other == id)?;
-        Some((first, first + 1 + after))
+    (0..ids.len()).find_map(|second| {
+        let (table, row) = (&ids[..second], ids[second]);
+        let first = table.iter().position(|&laid| laid == row)?;
+        Some((first, second))
     })
 }

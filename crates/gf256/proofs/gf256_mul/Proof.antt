@@ -1,8 +1,8 @@
 -- `gf256_mul` meets its contract: what is gathered in r, with the product of x and the bits of a that are still to come, is the
 -- product of a and b.
 -- Assumes nothing.
-use Prim.Native.Nat.{ℕ, _+_, _*_, _≤_, _<_, _-_, _/_, _^_}
-use mathlib.Core.Path.{_≡_, refl, sym, ap, _∙_}
+use Prim.Native.Nat.{ℕ, _*_, _≤_, _<_, _-_, _/_, _^_}
+use mathlib.Core.Path.{_≡_, refl, _∙_}
 use native.Mathlib.Nat.{div-one, div-eq-of-lt, div-div-eq-div-mul, mul-le-mul-right, pow-suc}
 use native.Mathlib.Numerals.{add-one}
 use native.Mathlib.Omega.{arith}
@@ -24,7 +24,7 @@ abbrev μ-loop : tie.MeasureT-loop
 μ-loop a b r₀ x₀ i₀ r x i = 8 - i
 
 loop-holds : tie.Need-loop-holds Inv-loop μ-loop
-loop-holds c = (omega arith, omega arith, ap (λ q. mul256 q (c .args .b)) (div-one (c .args .a)))
+loop-holds c = (omega arith, omega arith, rw div-one)
 
 shr-r : tie.Need-shr-r Inv-loop μ-loop
 shr-r c = search needs
@@ -41,6 +41,7 @@ add-i c = omega arith
 loop-less : tie.Need-loop-less Inv-loop μ-loop
 loop-less c = omega arith
 
+-- the lowest bit of q gathered, and x doubled for the others
 round : (q x r : ℕ) → x < 256 → bitXor (bitXor r (bitAnd q 1 * x)) (mul256 (q / 2) (reduce 8 modulus (x * 2))) ≡ bitXor r (mul256 q x)
 unfolding mul256
 round q x r h = rw (and-mask q 1, xor-assoc, mulMod-last 8 modulus refl q x h)
@@ -48,17 +49,17 @@ round q x r h = rw (and-mask q 1, xor-assoc, mulMod-last 8 modulus refl q x h)
 loop-again : tie.Need-loop-again Inv-loop μ-loop
 loop-again c =
     let l = c .before .before .loop in
-    let a = c .before .before .before .args .a in
-    let half : a / 2 ^ (l .i + 1) ≡ a / 2 ^ l .i / 2 = rw (add-one, pow-suc) (sym (div-div-eq-div-mul a (2 ^ l .i) 2)) in
-    (omega arith, omega arith, rw (half, c .xtime .ensures) (round (a / 2 ^ l .i) (l .x) (l .r) (l .inv .1) ∙ l .inv .2))
+    let q = c .before .before .before .args .a / 2 ^ l .i in (
+      omega arith,
+      omega arith,
+      rw (c .xtime .ensures, add-one, pow-suc, ← div-div-eq-div-mul) (round q (l .x) (l .r) (l .inv .1) ∙ l .inv .2),
+    )
 
 returns : tie.Need-returns Inv-loop μ-loop
 returns c =
     let l = c .before .loop in
-    let a = c .before .before .args .a in
     let e : l .i ≡ 8 = omega arith in
-    let none : mul256 (a / 2 ^ l .i) (l .x) ≡ 0 = rw (e, div-eq-of-lt (c .before .before .fits .a .fits)) (zero-mul ring256 (l .x)) in
-    sym (ap (bitXor (l .r)) none ∙ ring256 .add-zero (l .r)) ∙ l .inv .2
+    rw (e, div-eq-of-lt (c .before .before .fits .a .fits), zero-mul ring256 (l .x), ring256 .add-zero (l .r)) at (l .inv .2)
 
 pub gf256-mul-spec : {M : Type 1} → statement M
 gf256-mul-spec =

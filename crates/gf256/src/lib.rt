@@ -16,16 +16,15 @@ fn xtime(a: u8) -> u8
     a << 1 ^ (a >> 7) * 0x1b
 }
 
-// The product: the sum of b x^i for each bit i that is set in a.
-// A factor that stays the same through a loop belongs in b: its multiples are then made once, and the compiler may branch on the
-// bits of an a that stays the same.
+// The product: the sum of a x^i for each bit i that is set in b.
+// The compiler may branch on the bits of b, so that a secret belongs in a.
 pub fn gf256_mul(a: u8, b: u8) -> u8
     ensures { λ r. ⌜ r ≡ mul256 a b ⌝ }
 {
     let mut r = 0;
-    let mut x = b;
+    let mut x = a;
     for i in 0..8u8 {
-        r ^= (a >> i & 1) * x;
+        r ^= (b >> i & 1) * x;
         x = xtime(x);
     }
     r
@@ -50,16 +49,16 @@ pub fn gf256_inverse(a: u8) -> u8
     ensures { λ r. ⌜ r ≡ inv256 a ⌝ }
 {
     let a2 = gf256_square(a);
-    let a3 = gf256_mul(a2, a);
+    let a3 = gf256_mul(a, a2);
     let a6 = gf256_square(a3);
     let a12 = gf256_square(a6);
-    let a15 = gf256_mul(a12, a3);
+    let a15 = gf256_mul(a3, a12);
     let a30 = gf256_square(a15);
     let a60 = gf256_square(a30);
     let a120 = gf256_square(a60);
     let a240 = gf256_square(a120);
-    let a252 = gf256_mul(a240, a12);
-    gf256_mul(a252, a2)
+    let a252 = gf256_mul(a12, a240);
+    gf256_mul(a2, a252)
 }
 
 // An element of the field.

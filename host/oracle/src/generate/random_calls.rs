@@ -1,6 +1,8 @@
 //! Random calls: accepted ones, and ones damaged in up to three ways.
 
 use super::Call;
+use super::boundaries::repeated;
+use crate::reference::MAX_SECRET;
 use crate::{CombineCall, Random, Reference, SplitCall};
 
 /// One random call.
@@ -82,6 +84,7 @@ fn damage_split(call: &mut SplitCall, random: &mut Random) {
         _ if random.once_in(20) => {
             call.secret = random.bytes(4097);
             call.coefficients = random.bytes(call.coefficients_needed().min(1 << 16));
+            call.secret = repeated(&call.secret, MAX_SECRET + 1);
             call.room = call.bytes_written().min(1 << 16);
         }
         _ => set_somewhere(&mut call.coefficients, 0, random),
@@ -160,7 +163,9 @@ pub(super) fn damage_rows(rows: &mut Vec<Vec<u8>>, random: &mut Random) {
         5 => rows[some].push(1),
         6 => rows.truncate(random.between(0, 1)),
         7 => rows.iter_mut().for_each(|row| row.truncate(1)),
-        8 if random.once_in(20) => rows.iter_mut().for_each(|row| row.resize(4098, 3)),
+        8 if random.once_in(20) => rows
+            .iter_mut()
+            .for_each(|row| row.resize(MAX_SECRET + 2, 3)),
         // Damage that nothing can notice: the answer is another secret.
         _ => {
             let values = rows[some].len().min(1);

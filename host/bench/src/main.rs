@@ -7,6 +7,7 @@
 
 mod cases;
 mod machine;
+mod memory;
 mod numbers;
 mod page;
 mod plot;
@@ -68,12 +69,13 @@ fn measure(group: Group) -> Table {
     for case in &group.cases {
         let mut pair = (case.prepare)();
         let bytes = pair.assert_alike();
-        let line = Line::new(case, bytes, timing::race(&mut *pair));
+        let memory = memory::growth(|| pair.ours());
+        let line = Line::new(case, bytes, timing::race(&mut *pair), memory);
         println!("{}", line.as_text());
         table.lines.push(line);
     }
-    for (speed, _) in table.speeds() {
-        println!("{speed}");
+    for (note, _) in table.notes() {
+        println!("{note}");
     }
     println!();
     table

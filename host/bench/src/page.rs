@@ -40,7 +40,8 @@ original. The program fails where a limit is not kept.
 - A line has {FEWEST_ROUNDS} to {MOST_ROUNDS} rounds, fewer where a call is long. Each round \
 times a batch of ours, then a batch of the other's, each of as many calls as last about \
 {batch} ms or more. \
-A time is the median of its rounds, by call. The ratio is that of the medians.
+A time is the median of its rounds, by call. The ratio is that of the medians. Two lengths are put \
+beside each other by the least of their rounds.
 - Ours is called by its C entries. It is lent its memory, which is not cleared between calls.
 - The original is its unchanged text with stand-ins for the crates that it names \
 ([host/oracle](../host/oracle/README.md)). It allocates and frees its rows and its secret \
@@ -51,6 +52,9 @@ byte, onto a vector that has the room already. It judges nothing and hides nothi
 - The plain reader ([line_reader.rs](../host/oracle/src/line_reader.rs)) takes each line apart at its \
 tabs and pushes the value of two digits at a time onto a vector that has the room already. It judges \
 all that ours does, and gives the same line where it refuses.
+- Memory: the peak of what the process holds, as the system counts it, from before a call to after \
+it. The call runs on a fresh stack, and all that it is lent has been written before. The library knows \
+no heap: it calls nothing but `memcpy` and `memset`.
 - A megabyte is a million bytes.
 "
     )

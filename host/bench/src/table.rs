@@ -1,8 +1,13 @@
 //! What was measured, and its lines as text and Markdown.
 
-use crate::cases::{Case, Group};
+use crate::cases::{Case, Group, LONG};
+use crate::memory;
 use crate::numbers;
 use crate::timing::Times;
+
+/// The most that a byte of the longest secret may take, as a part of its time at [`LONG`]: no more, but
+/// for what two measurements differ by.
+const LONGER: f64 = 1.25;
 
 pub struct Table {
     pub name: &'static str,
@@ -13,11 +18,14 @@ pub struct Table {
 
 pub struct Line {
     /// The numbers of its case.
+    numbers: Vec<usize>,
     pub label: String,
     pub limit: f64,
     pub times: Times,
     /// Where there is a least one.
     speed: Option<Speed>,
+    /// KiB that a call takes beyond what it is lent, where the system tells.
+    memory: Option<u64>,
 }
 
 /// Megabytes that ours writes in a second: of a million bytes, and whole ones.
@@ -39,13 +47,15 @@ impl Speed {
 
 impl Line {
     /// What was measured of a case whose calls write so many bytes.
-    pub fn new(case: &Case, bytes: usize, times: Times) -> Self {
+    pub fn new(case: &Case, bytes: usize, times: Times, memory: Option<u64>) -> Self {
         let speed = |least| Speed::of(bytes, times.ours, least);
         Line {
+            numbers: case.numbers.clone(),
             label: numbers::list(&case.numbers),
             limit: case.limit,
             times,
             speed: case.least_speed.map(speed),
+            memory,
         }
     }
 
@@ -92,16 +102,55 @@ impl Table {
     pub fn as_markdown(&self) -> String {
         let lines = self.lines.iter().map(|line| barred(&line.cells()));
         let rule = "|---|--:|--:|--:|--:|--:|\n".to_string();
-        let speeds = self.speeds().map(|(speed, _)| format!("\n{speed}\n"));
+        let notes = self.notes().into_iter();
+        let notes = notes.map(|(note, _)| format!("\n{note}\n"));
         [barred(&self.heading()), rule]
             .into_iter()
             .chain(lines)
-            .chain(speeds)
+            .chain(notes)
             .collect()
     }
 
+    /// What else was found of the lines, and whether a limit is not kept there.
+    pub fn notes(&self) -> Vec<(String, bool)> {
+        let notes = self.speeds().chain(self.long_ones());
+        notes.chain(self.memory()).collect()
+    }
+
+    /// Says of each line of the longest secret how long a byte takes beside a shorter one.
+    fn long_ones(&self) -> impl Iterator<Item = (String, bool)> {
+        self.lines.iter().filter_map(|line| {
+            let (length, others) = line.numbers.split_last()?;
+            let is_shorter = |other: &&Line| other.numbers == [others, &[LONG]].concat();
+            let shorter = self.lines.iter().find(is_shorter)?;
+            if *length <= LONG {
+                return None;
+            }
+            let times_as_long = *length as f64 / LONG as f64;
+            let a_byte = line.times.least / shorter.times.least / times_as_long;
+            let words = format!(
+                "{}: a byte takes {} of its time at L = {}, at most {LONGER}",
+                self.name_of(line),
+                numbers::short(a_byte),
+                numbers::grouped(LONG as u64)
+            );
+            Some((words, a_byte > LONGER))
+        })
+    }
+
+    /// Says what a call takes at most, of all the lines of which it is known.
+    fn memory(&self) -> Option<(String, bool)> {
+        let most = self.lines.iter().filter_map(|line| line.memory).max()?;
+        let words = format!(
+            "{}: no call takes more than {most} KiB beyond what it is lent, at most {}",
+            self.name,
+            memory::MOST
+        );
+        Some((words, most > memory::MOST))
+    }
+
     /// Says of each line that has a least speed what it reached, and whether that is too little.
-    pub fn speeds(&self) -> impl Iterator<Item = (String, bool)> {
+    fn speeds(&self) -> impl Iterator<Item = (String, bool)> {
         self.lines.iter().filter_map(|line| {
             let speed = line.speed.as_ref()?;
             let reached = numbers::grouped(speed.reached as u64);
@@ -121,8 +170,8 @@ impl Table {
             let ratio = numbers::ratio(line.ratio());
             format!("{}: {ratio}, at most {}", self.name_of(line), line.limit)
         });
-        let too_slow = self.speeds().filter(|(_, missed)| *missed);
-        ratios.chain(too_slow.map(|(words, _)| words)).collect()
+        let notes = self.notes().into_iter().filter(|(_, missed)| *missed);
+        ratios.chain(notes.map(|(words, _)| words)).collect()
     }
 
     fn name_of(&self, line: &Line) -> String {
@@ -166,13 +215,14 @@ mod tests {
         let times = Times {
             ours,
             other,
+            least: ours,
             rounds: 3,
         };
         Table {
             name: "sheet",
             numbers: "rows, L",
             beside: "a plain writer",
-            lines: vec![Line::new(&case, 1_000_000, times)],
+            lines: vec![Line::new(&case, 1_000_000, times, None)],
         }
     }
 
@@ -185,6 +235,40 @@ mod tests {
                 .as_markdown()
                 .ends_with(&format!("\n{speed}\n"))
         );
+    }
+
+    /// Two lines of combine, 16 times as long the second, which takes so many seconds and KiB.
+    fn long_and_longest(longest: f64, memory: u64) -> Table {
+        let line = |length, ours| {
+            let case = Case {
+                numbers: vec![2, length],
+                limit: 2.0,
+                least_speed: None,
+                prepare: Box::new(|| unreachable!("nothing is measured here")),
+            };
+            let times = Times {
+                ours,
+                other: 1.0,
+                least: ours,
+                rounds: 3,
+            };
+            Line::new(&case, length, times, Some(memory))
+        };
+        Table {
+            name: "combine",
+            numbers: "rows, L",
+            beside: "the original",
+            lines: vec![line(LONG, 0.01), line(16 * LONG, longest)],
+        }
+    }
+
+    #[test]
+    fn bytes_of_a_long_secret_and_memory_have_their_limits() {
+        assert!(long_and_longest(0.2, 4).missed().is_empty());
+        let slow = "combine at rows, L = 2, 65,536: a byte takes 1.5 of its time at L = 4,096, at most 1.25";
+        let large = "combine: no call takes more than 257 KiB beyond what it is lent, at most 256";
+        assert_eq!(long_and_longest(0.24, 4).missed(), [slow]);
+        assert_eq!(long_and_longest(0.16, 257).missed(), [large]);
     }
 
     #[test]

@@ -18,6 +18,8 @@ pub const MOST_ROUNDS: usize = 101;
 pub struct Times {
     pub ours: f64,
     pub other: f64,
+    /// The least of ours, which other work on the machine disturbs least.
+    pub least: f64,
     pub rounds: usize,
 }
 
@@ -33,6 +35,7 @@ pub fn race(pair: &mut dyn Pair) -> Times {
         other.push(seconds_a_call(other_calls, || pair.other()));
     }
     Times {
+        least: ours.iter().copied().fold(f64::INFINITY, f64::min),
         ours: median(&mut ours),
         other: median(&mut other),
         rounds,

@@ -1,9 +1,8 @@
 //! How the stored sheets are made: which calls `sample/sheet.txt` holds, and its text. The answers
 //! are the plain reading's.
 
-use crate::generate::random_sheet_call;
+use crate::generate::{LONG, random_sheet_call};
 use crate::sample::{SheetAnswer, sheet_line};
-use crate::sample_maker::LONG_SECRET;
 use crate::{Outcome, Random, SheetCall, reference};
 
 /// Seed of the random calls.
@@ -85,7 +84,7 @@ fn bounds(random: &mut Random) -> Vec<SheetCall> {
     let every_value: Vec<u8> = [255].into_iter().chain(0..=255).collect();
     vec![
         SheetCall::of_rows(255, &rows(random, 1, 255, 1)),
-        SheetCall::of_rows(255, &rows(random, 255, 1, LONG_SECRET)),
+        SheetCall::of_rows(255, &rows(random, 255, 1, LONG)),
         SheetCall::of_rows(2, &[every_value]),
     ]
 }
@@ -111,7 +110,7 @@ fn refused() -> Vec<SheetCall> {
         of(2, &[0, 9], &[2]),
         of(0, &[5, 9, 7, 9, 7, 9, 5, 9], &[2; 4]),
         of(256, &[1, 9, 7, 9, 7, 9, 7, 9], &[2; 4]),
-        of(0, &[1; LONG_SECRET + 2], &[LONG_SECRET as u32 + 2]),
+        of(0, &[1; LONG + 2], &[LONG as u32 + 2]),
         of(0, &[1, 9], &[2]),
         of(1, &[1, 9], &[2]),
         of(256, &[1, 9], &[2]),

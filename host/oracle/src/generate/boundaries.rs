@@ -1,12 +1,12 @@
 //! Document 01's bounds from either side, and its refusals in every combination.
 
-use super::{Call, LengthBytesCall};
+use super::{Call, LONG, LengthBytesCall};
 use crate::reference::{MAX_LIMIT, MAX_SECRET};
 use crate::{CombineCall, Random, SplitCall};
 
 /// Of a secret around the limit so many bytes are drawn, and then repeated: what is drawn for the
 /// calls behind it, and with it the stored sample, does not hang on the limit.
-const DRAWN: usize = 4097;
+pub(super) const DRAWN: usize = LONG + 1;
 
 /// Every boundary call. They do not depend on a seed.
 pub fn boundary_calls() -> Vec<Call> {
@@ -80,11 +80,12 @@ fn split_bounds(random: &mut Random) -> Vec<SplitCall> {
             }
         }
     }
-    for secret in [1, 15, 16, 17, 63, 64, 65, 127, 128, 129, 4095, 4096, 4097] {
+    let around_blocks = [1, 15, 16, 17, 63, 64, 65, 127, 128, 129];
+    for secret in around_blocks.into_iter().chain(LONG - 1..=LONG + 1) {
         calls.push(accepted_split(random, 2, 3, secret));
         calls.push(accepted_split(random, 5, 5, secret));
     }
-    calls.push(accepted_split(random, 2, MAX_LIMIT, 4096));
+    calls.push(accepted_split(random, 2, MAX_LIMIT, LONG));
     calls.push(accepted_split(random, 128, 255, 33));
 
     for threshold in 2..=4 {
@@ -211,8 +212,8 @@ fn longest_combines(random: &mut Random) -> Vec<CombineCall> {
 fn combine_bounds(random: &mut Random) -> Vec<CombineCall> {
     let mut calls = Vec::new();
     for (count, values) in [
-        (2, 4096),
-        (2, 4097),
+        (2, LONG),
+        (2, LONG + 1),
         (3, 1),
         (254, 3),
         (255, 3),

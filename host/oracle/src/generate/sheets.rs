@@ -1,6 +1,7 @@
 //! Sheets to compare: document 02's bounds from either side, its refusals in every combination, and
 //! random calls.
 
+use super::LONG;
 use super::boundaries::{long_rows, plain_rows};
 use super::random_calls::{damage_rows, random_rows};
 use crate::reference::{MAX_LIMIT, MAX_SECRET};
@@ -56,7 +57,7 @@ fn shapes(random: &mut Random) -> Vec<SheetCall> {
     }
     calls.push(SheetCall::of_rows(
         128,
-        &plain_rows(random, MAX_LIMIT, 4096),
+        &plain_rows(random, MAX_LIMIT, LONG),
     ));
     calls
 }

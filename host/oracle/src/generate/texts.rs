@@ -1,6 +1,7 @@
 //! Texts to read as sheets: sheets of every shape in every room, small sheets damaged in every
 //! single way, numbers at every bound and beyond, and random texts.
 
+use super::LONG;
 use super::boundaries::plain_rows;
 use super::sheets::random_whole_sheet;
 use crate::reference::{self, MAX_LIMIT, MAX_SECRET};
@@ -57,7 +58,7 @@ fn shapes(random: &mut Random) -> Vec<ReadCall> {
         }));
     }
     // Many long rows take time: once is enough.
-    let rows = plain_rows(random, MAX_LIMIT, 4096);
+    let rows = plain_rows(random, MAX_LIMIT, LONG);
     calls.push(ReadCall {
         room: rows.concat().len(),
         ..ReadCall::of_text(text_of(128, &rows))

@@ -40,8 +40,9 @@ original. The program fails where a limit is not kept.
 - A line has {FEWEST_ROUNDS} to {MOST_ROUNDS} rounds, fewer where a call is long. Each round \
 times a batch of ours, then a batch of the other's, each of as many calls as last about \
 {batch} ms or more. \
-A time is the median of its rounds, by call. The ratio is that of the medians. Two lengths are put \
-beside each other by the least of their rounds.
+A time is the median of its rounds, by call. The ratio is that of the medians.
+- Bytes at two lengths: ours at the one and ours at the other, in turns, in batches of the same \
+work; the least of each counts.
 - Ours is called by its C entries. It is lent its memory, which is not cleared between calls.
 - The original is its unchanged text with stand-ins for the crates that it names \
 ([host/oracle](../host/oracle/README.md)). It allocates and frees its rows and its secret \

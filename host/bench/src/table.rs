@@ -18,14 +18,20 @@ pub struct Table {
 
 pub struct Line {
     /// The numbers of its case.
-    numbers: Vec<usize>,
     pub label: String,
     pub limit: f64,
     pub times: Times,
     /// Where there is a least one.
     speed: Option<Speed>,
+    beside: Beside,
+}
+
+/// What was measured beside the times.
+pub struct Beside {
+    /// The time of a byte of the longest secret, as a part of that at [`LONG`].
+    pub a_byte: Option<f64>,
     /// KiB that a call takes beyond what it is lent, where the system tells.
-    memory: Option<u64>,
+    pub memory: Option<u64>,
 }
 
 /// Megabytes that ours writes in a second: of a million bytes, and whole ones.
@@ -47,15 +53,14 @@ impl Speed {
 
 impl Line {
     /// What was measured of a case whose calls write so many bytes.
-    pub fn new(case: &Case, bytes: usize, times: Times, memory: Option<u64>) -> Self {
+    pub fn new(case: &Case, bytes: usize, times: Times, beside: Beside) -> Self {
         let speed = |least| Speed::of(bytes, times.ours, least);
         Line {
-            numbers: case.numbers.clone(),
             label: numbers::list(&case.numbers),
             limit: case.limit,
             times,
             speed: case.least_speed.map(speed),
-            memory,
+            beside,
         }
     }
 
@@ -120,14 +125,7 @@ impl Table {
     /// Says of each line of the longest secret how long a byte takes beside a shorter one.
     fn long_ones(&self) -> impl Iterator<Item = (String, bool)> {
         self.lines.iter().filter_map(|line| {
-            let (length, others) = line.numbers.split_last()?;
-            let is_shorter = |other: &&Line| other.numbers == [others, &[LONG]].concat();
-            let shorter = self.lines.iter().find(is_shorter)?;
-            if *length <= LONG {
-                return None;
-            }
-            let times_as_long = *length as f64 / LONG as f64;
-            let a_byte = line.times.least / shorter.times.least / times_as_long;
+            let a_byte = line.beside.a_byte?;
             let words = format!(
                 "{}: a byte takes {} of its time at L = {}, at most {LONGER}",
                 self.name_of(line),
@@ -140,7 +138,11 @@ impl Table {
 
     /// Says what a call takes at most, of all the lines of which it is known.
     fn memory(&self) -> Option<(String, bool)> {
-        let most = self.lines.iter().filter_map(|line| line.memory).max()?;
+        let most = self
+            .lines
+            .iter()
+            .filter_map(|line| line.beside.memory)
+            .max()?;
         let words = format!(
             "{}: no call takes more than {most} KiB beyond what it is lent, at most {}",
             self.name,
@@ -215,14 +217,21 @@ mod tests {
         let times = Times {
             ours,
             other,
-            least: ours,
             rounds: 3,
         };
         Table {
             name: "sheet",
             numbers: "rows, L",
             beside: "a plain writer",
-            lines: vec![Line::new(&case, 1_000_000, times, None)],
+            lines: vec![Line::new(
+                &case,
+                1_000_000,
+                times,
+                Beside {
+                    a_byte: None,
+                    memory: None,
+                },
+            )],
         }
     }
 
@@ -237,38 +246,21 @@ mod tests {
         );
     }
 
-    /// Two lines of combine, 16 times as long the second, which takes so many seconds and KiB.
-    fn long_and_longest(longest: f64, memory: u64) -> Table {
-        let line = |length, ours| {
-            let case = Case {
-                numbers: vec![2, length],
-                limit: 2.0,
-                least_speed: None,
-                prepare: Box::new(|| unreachable!("nothing is measured here")),
-            };
-            let times = Times {
-                ours,
-                other: 1.0,
-                least: ours,
-                rounds: 3,
-            };
-            Line::new(&case, length, times, Some(memory))
-        };
-        Table {
-            name: "combine",
-            numbers: "rows, L",
-            beside: "the original",
-            lines: vec![line(LONG, 0.01), line(16 * LONG, longest)],
-        }
-    }
-
     #[test]
     fn bytes_of_a_long_secret_and_memory_have_their_limits() {
-        assert!(long_and_longest(0.2, 4).missed().is_empty());
-        let slow = "combine at rows, L = 2, 65,536: a byte takes 1.5 of its time at L = 4,096, at most 1.25";
-        let large = "combine: no call takes more than 257 KiB beyond what it is lent, at most 256";
-        assert_eq!(long_and_longest(0.24, 4).missed(), [slow]);
-        assert_eq!(long_and_longest(0.16, 257).missed(), [large]);
+        let with = |a_byte, memory| {
+            let mut table = table(0.002, 0.002);
+            table.lines[0].beside = Beside {
+                a_byte: Some(a_byte),
+                memory: Some(memory),
+            };
+            table.missed()
+        };
+        assert!(with(1.25, 256).is_empty());
+        let slow = "sheet at rows, L = 255, 4,096: a byte takes 1.5 of its time at L = 4,096, at most 1.25";
+        let large = "sheet: no call takes more than 257 KiB beyond what it is lent, at most 256";
+        assert_eq!(with(1.5, 0), [slow]);
+        assert_eq!(with(1.0, 257), [large]);
     }
 
     #[test]

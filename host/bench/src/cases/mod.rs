@@ -42,6 +42,16 @@ pub struct Group {
     pub cases: Vec<Case>,
 }
 
+impl Group {
+    /// The case that differs from a case of the longest secret in that its secret is [`LONG`].
+    pub fn shorter(&self, case: &Case) -> Option<&Case> {
+        let (&length, others) = case.numbers.split_last()?;
+        let numbers = [others, &[LONG]].concat();
+        let shorter = self.cases.iter().find(|other| other.numbers == numbers);
+        shorter.filter(|_| length > LONG)
+    }
+}
+
 /// Every group, in the order of the pages.
 pub fn all(original: Original) -> Vec<Group> {
     vec![

@@ -17,6 +17,10 @@
 
 enum { UNTOUCHED = 0xee };
 
+/* Lengths of secrets: the longest there is, and one that is long beside every block and vector, for
+ * shapes of many rows, which would take minutes with the longest. */
+enum { LONGEST = VSSS_MAX_SECRET, LONG = 4096 };
+
 static unsigned splits, combines, sheets, refusals;
 
 static void require(int holds, const char *what) {
@@ -258,7 +262,7 @@ static const struct split_call refused_splits[] = {
     {VSSS_SHARING_MIN_THRESHOLD, 1, 3, 20, 20, 63, right, 3},
     {VSSS_NOT_ENOUGH_SHARE_IDENTIFIERS, 2, 3, 20, 20, 63, right, 2},
     {VSSS_SHARING_INVALID_IDENTIFIER, 2, 3, 20, 20, 63, zero, 3},
-    {VSSS_TOO_LONG, 2, 3, 4097, 4097, 12294, right, 3},
+    {VSSS_TOO_LONG, 2, 3, LONGEST + 1, 20, 63, right, 3},
     {VSSS_COEFFICIENT_COUNT, 2, 3, 20, 19, 63, right, 3},
     {VSSS_NO_ROOM, 2, 3, 20, 20, 62, right, 3},
 };
@@ -272,7 +276,7 @@ static const struct rows_call refused_combines[] = {
     {VSSS_INVALID_SHARE, 3, 20, 21, 62, 20, right},
     {VSSS_SHARING_INVALID_IDENTIFIER, 3, 21, 21, 63, 20, zero},
     {VSSS_SHARING_DUPLICATE_IDENTIFIER, 4, 21, 21, 84, 20, twice},
-    {VSSS_TOO_LONG, 3, 4098, 4098, 12294, 4097, right},
+    {VSSS_TOO_LONG, 2, LONGEST + 2, LONGEST + 2, 2 * (LONGEST + 2), 20, right},
     {VSSS_NO_ROOM, 3, 21, 21, 63, 19, right},
 };
 
@@ -285,7 +289,7 @@ static const struct sheet_call refused_sheets[] = {
     {2, {VSSS_INVALID_SHARE, 3, 20, 21, 62, 153, right}},
     {2, {VSSS_SHARING_INVALID_IDENTIFIER, 3, 21, 21, 63, 153, zero}},
     {2, {VSSS_SHARING_DUPLICATE_IDENTIFIER, 4, 21, 21, 84, 200, twice}},
-    {2, {VSSS_TOO_LONG, 3, 4098, 4098, 12294, 24617, right}},
+    {2, {VSSS_TOO_LONG, 1, LONGEST + 2, LONGEST + 2, LONGEST + 2, 153, right}},
     {1, {VSSS_SHARING_MIN_THRESHOLD, 3, 21, 21, 63, 153, right}},
     {256, {VSSS_INVALID_SIZE_REQUEST, 3, 21, 21, 63, 155, right}},
     {2, {VSSS_NO_ROOM, 3, 21, 21, 63, 152, right}},
@@ -371,10 +375,11 @@ static void large_shapes(void) {
     for (size_t i = 0; i < COUNT(lens); i++) split(16, 255, lens[i]);
     split(128, 255, 32);
     split(255, 255, 3);
-    split(2, 3, 4095);
-    split(2, 255, 4096);
-    split(16, 32, 4096);
-    split(255, 255, 4096);
+    split(2, 3, LONGEST - 1);
+    split(2, 3, LONGEST);
+    split(2, 255, LONG);
+    split(16, 32, LONG);
+    split(255, 255, LONG);
 }
 
 static void small_sheets(void) {
@@ -389,14 +394,15 @@ static void small_sheets(void) {
 /* From identifier 1 on, so that 16 rows have identifiers with one, two and three digits. */
 static void large_sheets(void) {
     static const size_t thresholds[] = {2, 255}, counts[] = {1, 2, 16, 255};
-    static const size_t lens[] = {1, 2, 15, 16, 17, 31, 32, 33, 100, 4096};
+    static const size_t lens[] = {1, 2, 15, 16, 17, 31, 32, 33, 100, LONG};
     for (size_t t = 0; t < COUNT(thresholds); t++)
         for (size_t c = 0; c < COUNT(counts); c++)
             for (size_t l = 0; l < COUNT(lens); l++) sheet(thresholds[t], 1, counts[c], lens[l]);
     for (size_t len = 1; len <= 400; len++) sheet(3, 1, 4, len);
     for (size_t count = 1; count <= 255; count++) sheet(count < 2 ? 2 : count, 1, count, 17);
     for (size_t id = 1; id <= 255; id++) sheet(2, id, 1, 33);
-    sheet(2, 1, 3, 4095);
+    sheet(2, 1, 3, LONGEST - 1);
+    sheet(2, 1, 3, LONGEST);
 }
 
 int main(int argc, char **argv) {

@@ -1,7 +1,7 @@
 /* Secret sharing of bytes: the entries of the proved library libvsss.a.
  *
- * A secret of 1 to 4,096 bytes is split into rows. A row is one identifier byte, 1 to 255, then
- * one value for each secret byte. Any `threshold` of the rows give the secret back; fewer say
+ * A secret of 1 to VSSS_MAX_SECRET bytes is split into rows. A row is one identifier byte, 1 to
+ * 255, then one value for each secret byte. Any `threshold` of the rows give the secret back; fewer say
  * nothing of it. What is refused, and in which order, is in docs/RULES.md.
  *
  * Every entry judges its whole input and always returns. What a caller owes:
@@ -20,6 +20,9 @@
 #ifdef __cplusplus
 extern "C" {
 #endif
+
+/* The longest secret: a longer one is refused. Digits alone, since VSSS_SHEET_ROOM spells it. */
+#define VSSS_MAX_SECRET 65536
 
 /* Splits `secret` into `limit` rows, one after another from the start of `out`.
  *
@@ -67,9 +70,13 @@ uint64_t vsss_write_sheet(size_t threshold,
                           const uint8_t *lengths, size_t lengths_len,
                           uint8_t *out, size_t out_len);
 
-/* Bytes that every sheet of so many rows with so many values each fits into: no number in it has
- * more than 3 digits, but for the count of values with 4. */
-#define VSSS_SHEET_ROOM(count, values) (18 + (size_t)(count) * (9 + 2 * (size_t)(values)))
+/* Bytes that every sheet of so many rows with so many values each fits into: those of a first line
+ * with the largest numbers, and of lines with the largest identifier. */
+#define VSSS_SHEET_ROOM(count, values)                                  \
+    (sizeof "seal\t255\t255\t" VSSS_SPELLED(VSSS_MAX_SECRET) "\n" - 1   \
+     + (size_t)(count) * (sizeof "row\t255\t\n" - 1 + 2 * (size_t)(values)))
+#define VSSS_SPELLED(number) VSSS_SPELLED_AS_IS(number)
+#define VSSS_SPELLED_AS_IS(number) #number
 
 /* Reads a sheet: writes its rows one after another from the start of `out`, each its identifier and
  * then its values, and what its first line says from the start of `head`.
@@ -114,7 +121,7 @@ enum vsss_refusal {
     VSSS_SHARING_DUPLICATE_IDENTIFIER = 7,       /* at both places; never given by split */
     VSSS_INVALID_SHARE = 8,                      /* first row under 2 bytes, or unequal lengths */
     VSSS_INVALID_SHARE_ELEMENT = 9,              /* never given by these entries */
-    VSSS_TOO_LONG = 10,                          /* a secret over 4,096 bytes, or rows of it */
+    VSSS_TOO_LONG = 10,                          /* a secret over VSSS_MAX_SECRET, or rows of it */
     VSSS_COEFFICIENT_COUNT = 11,
     VSSS_NO_ROOM = 12,                           /* out or head is too short */
     VSSS_ROW_LENGTHS = 13,                       /* not whole fours, over 65,535, or not

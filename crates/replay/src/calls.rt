@@ -3,52 +3,64 @@
 ghost use mathlib.Core.Path.{_≡_};
 ghost use lib.ListN.{length};
 ghost use Rattle.replay.specs.Fill.{Within};
+ghost use Rattle.replay.specs.Rooms.{values, output, ids, rows, lengths};
 use crate::parse;
 use crate::parse::Filled;
 use crate::parse::Number;
 use crate::print;
+use row_set::MAX_SECRET;
 
 enum Bounds {
     Are(usize, usize),
     Unreadable,
 }
 
+// What is kept of each field: more than the entries take, so that their limits are met from either side.
+
+// Of a secret, and of coefficients.
+const VALUES: usize = MAX_SECRET + 104;
+
+// Of an output, a head and a sheet's text: three of the longest rows, or the sheet of one.
+const OUTPUT: usize = 3 * (MAX_SECRET + 4);
+
+// Of identifiers.
+const IDS: usize = 300;
+
+// Of rows: two of the longest, or as many of the shortest as are ever taken.
+const ROWS: usize = 2 * MAX_SECRET + 140000;
+
+// Of lengths: two more than are ever taken.
+const LENGTHS: usize = 262152;
+
 // The contracts keep the contents of the buffers out of the proofs, which would be as long.
-fn output_bytes() -> [u8; 12300]
-    ensures { λ r. ⌜ 12300 ≡ length r ⌝ }
+fn output_bytes() -> [u8; OUTPUT]
+    ensures { λ r. ⌜ output ≡ length r ⌝ }
 {
-    [print::UNTOUCHED; 12300]
+    [print::UNTOUCHED; OUTPUT]
 }
 
-fn value_bytes() -> [u8; 4200]
-    ensures { λ r. ⌜ 4200 ≡ length r ⌝ }
+fn value_bytes() -> [u8; VALUES]
+    ensures { λ r. ⌜ values ≡ length r ⌝ }
 {
-    [0; 4200]
+    [0; VALUES]
 }
 
-fn id_bytes() -> [u8; 300]
-    ensures { λ r. ⌜ 300 ≡ length r ⌝ }
+fn id_bytes() -> [u8; IDS]
+    ensures { λ r. ⌜ ids ≡ length r ⌝ }
 {
-    [0; 300]
+    [0; IDS]
 }
 
-fn text_bytes() -> [u8; 16000]
-    ensures { λ r. ⌜ 16000 ≡ length r ⌝ }
+fn row_bytes() -> [u8; ROWS]
+    ensures { λ r. ⌜ rows ≡ length r ⌝ }
 {
-    [0; 16000]
+    [0; ROWS]
 }
 
-fn row_bytes() -> [u8; 140000]
-    ensures { λ r. ⌜ 140000 ≡ length r ⌝ }
+fn length_bytes() -> [u8; LENGTHS]
+    ensures { λ r. ⌜ lengths ≡ length r ⌝ }
 {
-    [0; 140000]
-}
-
-// Two lengths more than are ever taken.
-fn length_bytes() -> [u8; 262152]
-    ensures { λ r. ⌜ 262152 ≡ length r ⌝ }
-{
-    [0; 262152]
+    [0; LENGTHS]
 }
 
 // How much of the buffer the number that is field k asks for.
@@ -214,7 +226,7 @@ fn read_head(line: &[u8], text: &[u8]) -> Filled {
 }
 
 fn read_text(line: &[u8]) -> Filled {
-    let mut text = text_bytes();
+    let mut text = output_bytes();
     let filled = parse::bytes_at(line, 1, &mut text);
     let Filled::Bytes(n) = filled else {
         return filled;

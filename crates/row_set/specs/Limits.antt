@@ -7,7 +7,7 @@ use Rattle.answer.specs.Outcome.{Outcome, done, refused}
 
 -- the longest secret: more is refusal 10
 abbrev pub maxSecret : ℕ
-maxSecret = 4096
+maxSecret = 65536
 
 -- the most rows that a split makes, and the highest threshold of a sheet: more is refusal 1
 abbrev pub maxShares : ℕ

@@ -12,7 +12,7 @@ use answer::Answer;
 use answer::Reason;
 
 // The longest secret: more is refusal 10.
-pub const MAX_SECRET: usize = 4096;
+pub const MAX_SECRET: usize = 65536;
 
 // The most rows that a split makes, and the highest threshold of a sheet: more is refusal 1.
 pub const MAX_SHARES: usize = 255;

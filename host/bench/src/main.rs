@@ -7,6 +7,7 @@
 
 mod cases;
 mod machine;
+mod memory;
 mod numbers;
 mod page;
 mod plot;
@@ -17,8 +18,8 @@ use std::path::Path;
 use std::process::ExitCode;
 use std::{env, fs, io};
 
-use cases::Group;
-use table::{Line, Table};
+use cases::{Case, Group, Pair};
+use table::{Beside, Line, Table};
 
 fn main() -> ExitCode {
     let groups = may_write().and_then(|write| Ok((write, groups()?)));
@@ -68,15 +69,29 @@ fn measure(group: Group) -> Table {
     for case in &group.cases {
         let mut pair = (case.prepare)();
         let bytes = pair.assert_alike();
-        let line = Line::new(case, bytes, timing::race(&mut *pair));
+        let memory = memory::growth(|| pair.ours());
+        let times = timing::race(&mut *pair);
+        let a_byte = group
+            .shorter(case)
+            .map(|shorter| a_byte(case, &mut *pair, shorter));
+        let line = Line::new(case, bytes, times, Beside { a_byte, memory });
         println!("{}", line.as_text());
         table.lines.push(line);
     }
-    for (speed, _) in table.speeds() {
-        println!("{speed}");
+    for (note, _) in table.notes() {
+        println!("{note}");
     }
     println!();
     table
+}
+
+/// The time of a byte of the secret in a case, as a part of that in the other, whose secret is shorter.
+fn a_byte(case: &Case, pair: &mut dyn Pair, other: &Case) -> f64 {
+    let mut shorter = (other.prepare)();
+    shorter.assert_alike();
+    let length = |case: &Case| *case.numbers.last().expect("the length is the last");
+    let parts = (length(case) / length(other)) as u32;
+    timing::times_as_long(|| pair.ours(), || shorter.ours(), parts)
 }
 
 fn write_pages(tables: &[Table]) -> io::Result<()> {

@@ -41,6 +41,8 @@ original. The program fails where a limit is not kept.
 times a batch of ours, then a batch of the other's, each of as many calls as last about \
 {batch} ms or more. \
 A time is the median of its rounds, by call. The ratio is that of the medians.
+- Bytes at two lengths: ours at the one and ours at the other, in turns, in batches of the same \
+work; the least of each counts.
 - Ours is called by its C entries. It is lent its memory, which is not cleared between calls.
 - The original is its unchanged text with stand-ins for the crates that it names \
 ([host/oracle](../host/oracle/README.md)). It allocates and frees its rows and its secret \
@@ -51,6 +53,9 @@ byte, onto a vector that has the room already. It judges nothing and hides nothi
 - The plain reader ([line_reader.rs](../host/oracle/src/line_reader.rs)) takes each line apart at its \
 tabs and pushes the value of two digits at a time onto a vector that has the room already. It judges \
 all that ours does, and gives the same line where it refuses.
+- Memory: the peak of what the process holds, as the system counts it, from before a call to after \
+it. The call runs on a fresh stack, and all that it is lent has been written before. The library knows \
+no heap: it calls nothing but `memcpy` and `memset`.
 - A megabyte is a million bytes.
 "
     )

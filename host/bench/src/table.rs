@@ -1,8 +1,13 @@
 //! What was measured, and its lines as text and Markdown.
 
-use crate::cases::{Case, Group};
+use crate::cases::{Case, Group, LONG};
+use crate::memory;
 use crate::numbers;
 use crate::timing::Times;
+
+/// The most that a byte of the longest secret may take, as a part of its time at [`LONG`]: no more, but
+/// for what two measurements differ by.
+const LONGER: f64 = 1.25;
 
 pub struct Table {
     pub name: &'static str,
@@ -18,6 +23,15 @@ pub struct Line {
     pub times: Times,
     /// Where there is a least one.
     speed: Option<Speed>,
+    beside: Beside,
+}
+
+/// What was measured beside the times.
+pub struct Beside {
+    /// The time of a byte of the longest secret, as a part of that at [`LONG`].
+    pub a_byte: Option<f64>,
+    /// KiB that a call takes beyond what it is lent, where the system tells.
+    pub memory: Option<u64>,
 }
 
 /// Megabytes that ours writes in a second: of a million bytes, and whole ones.
@@ -39,13 +53,14 @@ impl Speed {
 
 impl Line {
     /// What was measured of a case whose calls write so many bytes.
-    pub fn new(case: &Case, bytes: usize, times: Times) -> Self {
+    pub fn new(case: &Case, bytes: usize, times: Times, beside: Beside) -> Self {
         let speed = |least| Speed::of(bytes, times.ours, least);
         Line {
             label: numbers::list(&case.numbers),
             limit: case.limit,
             times,
             speed: case.least_speed.map(speed),
+            beside,
         }
     }
 
@@ -92,16 +107,52 @@ impl Table {
     pub fn as_markdown(&self) -> String {
         let lines = self.lines.iter().map(|line| barred(&line.cells()));
         let rule = "|---|--:|--:|--:|--:|--:|\n".to_string();
-        let speeds = self.speeds().map(|(speed, _)| format!("\n{speed}\n"));
+        let notes = self.notes().into_iter();
+        let notes = notes.map(|(note, _)| format!("\n{note}\n"));
         [barred(&self.heading()), rule]
             .into_iter()
             .chain(lines)
-            .chain(speeds)
+            .chain(notes)
             .collect()
     }
 
+    /// What else was found of the lines, and whether a limit is not kept there.
+    pub fn notes(&self) -> Vec<(String, bool)> {
+        let notes = self.speeds().chain(self.long_ones());
+        notes.chain(self.memory()).collect()
+    }
+
+    /// Says of each line of the longest secret how long a byte takes beside a shorter one.
+    fn long_ones(&self) -> impl Iterator<Item = (String, bool)> {
+        self.lines.iter().filter_map(|line| {
+            let a_byte = line.beside.a_byte?;
+            let words = format!(
+                "{}: a byte takes {} of its time at L = {}, at most {LONGER}",
+                self.name_of(line),
+                numbers::short(a_byte),
+                numbers::grouped(LONG as u64)
+            );
+            Some((words, a_byte > LONGER))
+        })
+    }
+
+    /// Says what a call takes at most, of all the lines of which it is known.
+    fn memory(&self) -> Option<(String, bool)> {
+        let most = self
+            .lines
+            .iter()
+            .filter_map(|line| line.beside.memory)
+            .max()?;
+        let words = format!(
+            "{}: no call takes more than {most} KiB beyond what it is lent, at most {}",
+            self.name,
+            memory::MOST
+        );
+        Some((words, most > memory::MOST))
+    }
+
     /// Says of each line that has a least speed what it reached, and whether that is too little.
-    pub fn speeds(&self) -> impl Iterator<Item = (String, bool)> {
+    fn speeds(&self) -> impl Iterator<Item = (String, bool)> {
         self.lines.iter().filter_map(|line| {
             let speed = line.speed.as_ref()?;
             let reached = numbers::grouped(speed.reached as u64);
@@ -121,8 +172,8 @@ impl Table {
             let ratio = numbers::ratio(line.ratio());
             format!("{}: {ratio}, at most {}", self.name_of(line), line.limit)
         });
-        let too_slow = self.speeds().filter(|(_, missed)| *missed);
-        ratios.chain(too_slow.map(|(words, _)| words)).collect()
+        let notes = self.notes().into_iter().filter(|(_, missed)| *missed);
+        ratios.chain(notes.map(|(words, _)| words)).collect()
     }
 
     fn name_of(&self, line: &Line) -> String {
@@ -172,7 +223,15 @@ mod tests {
             name: "sheet",
             numbers: "rows, L",
             beside: "a plain writer",
-            lines: vec![Line::new(&case, 1_000_000, times)],
+            lines: vec![Line::new(
+                &case,
+                1_000_000,
+                times,
+                Beside {
+                    a_byte: None,
+                    memory: None,
+                },
+            )],
         }
     }
 
@@ -185,6 +244,23 @@ mod tests {
                 .as_markdown()
                 .ends_with(&format!("\n{speed}\n"))
         );
+    }
+
+    #[test]
+    fn bytes_of_a_long_secret_and_memory_have_their_limits() {
+        let with = |a_byte, memory| {
+            let mut table = table(0.002, 0.002);
+            table.lines[0].beside = Beside {
+                a_byte: Some(a_byte),
+                memory: Some(memory),
+            };
+            table.missed()
+        };
+        assert!(with(1.25, 256).is_empty());
+        let slow = "sheet at rows, L = 255, 4,096: a byte takes 1.5 of its time at L = 4,096, at most 1.25";
+        let large = "sheet: no call takes more than 257 KiB beyond what it is lent, at most 256";
+        assert_eq!(with(1.5, 0), [slow]);
+        assert_eq!(with(1.0, 257), [large]);
     }
 
     #[test]

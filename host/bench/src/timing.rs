@@ -39,6 +39,25 @@ pub fn race(pair: &mut dyn Pair) -> Times {
     }
 }
 
+/// How often the time of `part` the time of `whole` is, where so many calls of `part` do as much work
+/// as one of `whole`.
+///
+/// Both are timed in turns, in batches of the same work, and the least of each counts: what disturbs
+/// the machine only adds.
+pub fn times_as_long(mut whole: impl FnMut(), mut part: impl FnMut(), parts: u32) -> f64 {
+    let (calls, time) = batch_of(&mut whole);
+    let rounds = 0..rounds_of(2 * time);
+    let times = rounds.map(|_| {
+        let whole = time_of(calls, &mut whole);
+        (whole, time_of(parts * calls, &mut part))
+    });
+    let longest = (Duration::MAX, Duration::MAX);
+    let (whole, part) = times.fold(longest, |least, round| {
+        (least.0.min(round.0), least.1.min(round.1))
+    });
+    whole.as_secs_f64() / part.as_secs_f64()
+}
+
 /// How many calls make a batch, and how long it lasts. Finding it also warms the caches.
 ///
 /// The lesser of two times counts: a pause of the machine would make the batch too small.
@@ -92,6 +111,16 @@ mod tests {
         assert_eq!(median(&mut [5.0]), 5.0);
         assert_eq!(median(&mut [9.0, 1.0, 5.0]), 5.0);
         assert_eq!(median(&mut [9.0, 1.0, 5.0, 6.0]), 5.5);
+    }
+
+    #[test]
+    fn thrice_the_work_takes_thrice_the_time() {
+        let sum = |count: u64| {
+            let add = |sum: u64, n| std::hint::black_box(sum ^ n);
+            std::hint::black_box((0..count).fold(0, add));
+        };
+        let thrice = times_as_long(|| sum(480_000), || sum(10_000), 16);
+        assert!((1.5..6.0).contains(&thrice), "{thrice}");
     }
 
     #[test]

@@ -1,5 +1,17 @@
 //! The pages of `--help`.
 
+use vsss::MAX_SECRET;
+
+use crate::words::grouped;
+
+/// Stands in a page for the number of bytes of the longest key.
+const LONGEST: &str = "{longest}";
+
+/// A page as it is shown.
+pub fn shown(page: &str) -> String {
+    page.replace(LONGEST, &grouped(MAX_SECRET))
+}
+
 pub const DESK: &str = "\
 desk: splits a key file into row files, combines them into the key, writes them as sheets and
 reads sheets
@@ -28,7 +40,7 @@ desk split: splits a key file into row files
 
   desk split --threshold T --ids 1,2,3,4 [--coefficients FILE] [--force] --out DIR KEYFILE
 
-  KEYFILE              the key: 1 to 4,096 bytes. It is read, not changed
+  KEYFILE              the key: 1 to {longest} bytes. It is read, not changed
   --threshold T        how many rows give the key back: from 2 to the number of identifiers
   --ids 1,2,3,4        one identifier for each row, different, from 1 to 255
   --out DIR            the folder for the row files 1.row, 2.row, ..; it is made if missing

@@ -54,7 +54,7 @@ fn run(words: Vec<OsString>) -> Result<(), Failure> {
 }
 
 fn print_help(page: &str) -> Result<(), Failure> {
-    let written = io::stdout().write_all(page.as_bytes());
+    let written = io::stdout().write_all(help::shown(page).as_bytes());
     written.map_err(|error| Failure::cannot_write(Path::new("the help"), &error))
 }
 

@@ -1,6 +1,6 @@
 //! How the stored sample is made: which calls it holds, its text, and where it is put.
 
-use crate::generate::{Call, boundary_calls, random_call};
+use crate::generate::{Call, LONG, boundary_calls, random_call};
 use crate::sample::{combine_line, split_line};
 use crate::{CombineCall, Original, Random, Reference, SplitCall, reference};
 use std::fs;
@@ -10,8 +10,11 @@ use std::path::{Path, PathBuf};
 pub const SEED: u64 = 6;
 /// Random calls of each kind.
 pub const RANDOM: usize = 300;
-/// Longer lines are left out, but for the first of the longest secret.
+/// Longer lines are left out, but for those at a bound and of a long secret.
 const LINE_LIMIT: usize = 1200;
+/// A row of the longest lines. Those of the longest secret would be as long as all others together,
+/// and the original has no limit.
+const LONG_ROW: u32 = LONG as u32 + 1;
 /// Every boundary with a small line would be too many: refusals in combination are thinned out.
 const EVERY: usize = 5;
 
@@ -147,7 +150,7 @@ fn combine_length(call: &CombineCall) -> usize {
 fn few_long_splits(calls: Vec<SplitCall>) -> Vec<SplitCall> {
     let at_bound = |call: &SplitCall| {
         let shape = (call.threshold, call.limit, call.secret.len());
-        matches!(shape, (2 | 254 | 255, 255, 1) | (2, 3, 4096)) && split_number(call) == 0
+        matches!(shape, (2 | 254 | 255, 255, 1) | (2, 3, LONG)) && split_number(call) == 0
     };
     few_long(calls, split_length, at_bound)
 }
@@ -155,7 +158,7 @@ fn few_long_splits(calls: Vec<SplitCall>) -> Vec<SplitCall> {
 fn few_long_combines(calls: Vec<CombineCall>) -> Vec<CombineCall> {
     let at_bound = |call: &CombineCall| {
         let shape = (call.lengths.len(), call.room, call.lengths.first());
-        matches!(shape, (2, 4096, Some(4097)) | (254..=256, 3, Some(4)))
+        matches!(shape, (2, LONG, Some(&LONG_ROW)) | (254..=256, 3, Some(4)))
     };
     few_long(calls, combine_length, at_bound)
 }

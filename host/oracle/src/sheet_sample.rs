@@ -1,7 +1,7 @@
 //! How the stored sheets are made: which calls `sample/sheet.txt` holds, and its text. The answers
 //! are the plain reading's.
 
-use crate::generate::random_sheet_call;
+use crate::generate::{LONG, random_sheet_call};
 use crate::sample::{SheetAnswer, sheet_line};
 use crate::{Outcome, Random, SheetCall, reference};
 
@@ -79,17 +79,18 @@ fn digits_gained(random: &mut Random) -> Vec<SheetCall> {
     [ids.to_vec(), counts.to_vec(), lengths.to_vec()].concat()
 }
 
-/// The largest numbers, and every value.
+/// The largest numbers, but for a long row in the place of the longest, and every value.
 fn bounds(random: &mut Random) -> Vec<SheetCall> {
     let every_value: Vec<u8> = [255].into_iter().chain(0..=255).collect();
     vec![
         SheetCall::of_rows(255, &rows(random, 1, 255, 1)),
-        SheetCall::of_rows(255, &rows(random, 255, 1, 4096)),
+        SheetCall::of_rows(255, &rows(random, 255, 1, LONG)),
         SheetCall::of_rows(2, &[every_value]),
     ]
 }
 
-/// Every refusal, most of them where the next ones of the order hold as well.
+/// Every refusal but 10, whose rows would make the line too long, most of them where the next ones of
+/// the order hold as well.
 fn refused() -> Vec<SheetCall> {
     let of = |threshold, rows: &[u8], lengths: &[u32]| SheetCall {
         room: 0,
@@ -109,7 +110,7 @@ fn refused() -> Vec<SheetCall> {
         of(2, &[0, 9], &[2]),
         of(0, &[5, 9, 7, 9, 7, 9, 5, 9], &[2; 4]),
         of(256, &[1, 9, 7, 9, 7, 9, 7, 9], &[2; 4]),
-        of(0, &[1; 4098], &[4098]),
+        of(0, &[1; LONG + 2], &[LONG as u32 + 2]),
         of(0, &[1, 9], &[2]),
         of(1, &[1, 9], &[2]),
         of(256, &[1, 9], &[2]),

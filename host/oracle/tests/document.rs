@@ -2,8 +2,8 @@
 
 use oracle::Outcome::{self, Done};
 use oracle::reference::{
-    combine, combine_length_bytes, field_bounded_add, inverse, product, quotient, split,
-    uniform_nonzero_u8,
+    MAX_LIMIT, MAX_SECRET, combine, combine_length_bytes, field_bounded_add, inverse, product,
+    quotient, split, uniform_nonzero_u8,
 };
 
 fn split_bytes(
@@ -84,12 +84,12 @@ fn split_bounds() {
         split_bytes(2, 3, &[1], &[1, 0], &[9]).0,
         Outcome::refused_at(6, 1, 0)
     );
-    let longest = [3; 4096];
+    let longest = [3; MAX_SECRET];
     assert_eq!(
         split_bytes(2, 2, &longest, &ids, &longest).0,
-        Done(2 * 4097)
+        Done(2 * (MAX_SECRET + 1))
     );
-    let longer = [3; 4097];
+    let longer = [3; MAX_SECRET + 1];
     assert_eq!(split_bytes(2, 2, &longer, &ids, &longer).0, refused(10));
     assert_eq!(split_bytes(2, 2, &[1], &ids, &[]).0, refused(11));
     let mut out = [7; 3];
@@ -118,8 +118,15 @@ fn combine_bounds() {
         combine(&[1, 9, 8, 2, 9, 8], &[3; 2], &mut [0; 1]),
         refused(12)
     );
-    let rows: Vec<u8> = [vec![1; 4098], vec![2; 4098]].concat();
-    assert_eq!(combine_bytes(&rows, &[4098; 2]).0, refused(10));
+    let rows = |values: usize| [1, 2].map(|id| vec![id; values + 1]).concat();
+    let longest = combine(
+        &rows(MAX_SECRET),
+        &[MAX_SECRET as u32 + 1; 2],
+        &mut [0; MAX_SECRET],
+    );
+    assert_eq!(longest, Done(MAX_SECRET));
+    let longer = combine_bytes(&rows(MAX_SECRET + 1), &[MAX_SECRET as u32 + 2; 2]);
+    assert_eq!(longer.0, refused(10));
 }
 
 #[test]
@@ -134,7 +141,7 @@ fn lengths_that_cross_as_bytes() {
 fn words_of_the_c_interface() {
     for outcome in [
         Done(0),
-        Done(255 * 4097),
+        Done(MAX_LIMIT * (MAX_SECRET + 1)),
         Outcome::refused(13),
         Outcome::refused_at(6, 65_534, 0),
         Outcome::refused_at(7, 65_533, 65_534),

@@ -211,7 +211,7 @@ fn room_checked_first() {
 fn the_longest_secret_refused() {
     let found = with_combine(
         |rows, lengths, out| match reference::combine(rows, lengths, out) {
-            Done(4096) => Outcome::refused(10),
+            Done(reference::MAX_SECRET) => Outcome::refused(10),
             outcome => outcome,
         },
     );

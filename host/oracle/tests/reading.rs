@@ -406,11 +406,11 @@ fn what_does_not_come_back_is_found() {
         head[0] ^= 1;
         word
     };
-    assert!(there_and_back(write, other_threshold, 0, 7).is_err());
+    assert!(there_and_back(write, other_threshold, 1, 7).is_err());
     let other_row = |text: &[u8], head: &mut [u8], out: &mut [u8]| {
         let word = plain(text, head, out);
         out[1] ^= 1;
         word
     };
-    assert!(there_and_back(write, other_row, 0, 7).is_err());
+    assert!(there_and_back(write, other_row, 1, 7).is_err());
 }

@@ -1,6 +1,7 @@
 //! The stored sample: it has what it should, the plain reading gives its answers, a wrong
 //! implementation does not.
 
+use oracle::generate::LONG;
 use oracle::sample::{COMBINE, SPLIT, combine_records, replay, split_records};
 use oracle::{Outcome, reference};
 
@@ -30,14 +31,14 @@ fn every_refusal_of_the_original_is_there() {
 #[test]
 fn the_bounds_are_there() {
     let splits = split_records(SPLIT).unwrap();
-    for bound in [(2, 255, 1), (255, 255, 1), (2, 3, 4096)] {
+    for bound in [(2, 255, 1), (255, 255, 1), (2, 3, LONG)] {
         let has = splits.iter().any(|(_, (call, answer))| {
             (call.threshold, call.limit, call.secret.len()) == bound && answer.is_ok()
         });
         assert!(has, "{bound:?}");
     }
     let combines = combine_records(COMBINE).unwrap();
-    for bound in [(2, 4096), (255, 3)] {
+    for bound in [(2, LONG), (255, 3)] {
         let has = combines.iter().any(|(_, (call, answer))| {
             let written = answer.as_ref().map_or(0, Vec::len);
             (call.lengths.len(), written) == bound

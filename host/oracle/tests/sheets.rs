@@ -5,7 +5,7 @@ mod pair;
 
 use oracle::Outcome::{self, Done};
 use oracle::compare::sheets;
-use oracle::reference::write_sheet;
+use oracle::reference::{MAX_SECRET, write_sheet};
 use oracle::sample::{SHEET, replay_sheets, sheet_records};
 
 const LENT: u8 = 0xee;
@@ -51,7 +51,8 @@ fn what_is_refused_in_which_order() {
     assert_eq!(refusal(0, &[5, 9, 5, 9, 0, 9], &[2; 3]), zero);
     let twice = Outcome::refused_at(7, 1, 2);
     assert_eq!(refusal(0, &[5, 9, 7, 9, 7, 9, 5, 9], &[2; 4]), twice);
-    assert_eq!(refusal(0, &[1; 4098], &[4098]), refused(10));
+    let longer = [1; MAX_SECRET + 2];
+    assert_eq!(refusal(0, &longer, &[longer.len() as u32]), refused(10));
     assert_eq!(refusal(1, &[1, 9], &[2]), refused(4));
     assert_eq!(refusal(256, &[1, 9], &[2]), refused(1));
     assert_eq!(refusal(255, &[1, 9], &[2]), refused(12));
@@ -81,7 +82,7 @@ fn the_stored_sheets_have_every_answer() {
         records.iter().filter(with_it).count()
     };
     assert!(count(0) >= 25);
-    for number in [1, 4, 6, 7, 8, 10, 12, 13] {
+    for number in [1, 4, 6, 7, 8, 12, 13] {
         assert!(count(number) > 0, "{number}");
     }
     assert!(SHEET.len() < 100_000);
@@ -267,10 +268,13 @@ fn wrong_bounds_are_found() {
         _ => plain(threshold, rows, lengths, out),
     });
     assert!(found > 0);
-    let found = faults(|threshold, rows, lengths, out| match lengths {
-        [1, 16, 0, 0, ..] => refused(10),
-        _ => plain(threshold, rows, lengths, out),
-    });
+    let longest = (MAX_SECRET as u32 + 1).to_le_bytes();
+    let found = faults(
+        |threshold, rows, lengths, out| match lengths.starts_with(&longest) {
+            true => refused(10),
+            false => plain(threshold, rows, lengths, out),
+        },
+    );
     assert!(found > 0);
     let found = faults(|threshold, rows, lengths, out| match lengths.len() {
         1020 => Outcome::refused_at(7, 0, 254).to_word(),

@@ -1,6 +1,6 @@
 //! Secret sharing of bytes: safe Rust over the proved library `libvsss.a`.
 //!
-//! A secret of up to 4,096 bytes is split into rows, one for each holder. Any `threshold` of the
+//! A secret of up to [`MAX_SECRET`] bytes is split into rows, one for each holder. Any `threshold` of the
 //! rows give it back; fewer say nothing of it.
 //!
 //! ```
@@ -76,8 +76,8 @@ pub use sharing::{coefficients_needed, combine, combine_into, split, split_into,
 pub use sheet::{sheet, sheet_into, sheet_room};
 pub use wipe::{wipe, Secret};
 
-/// The longest secret, in bytes.
-pub const MAX_SECRET: usize = 4096;
+/// The longest secret, in bytes: the library refuses a longer one.
+pub const MAX_SECRET: usize = 65_536;
 
 /// The most rows that a split makes.
 pub const MAX_SHARES: usize = 255;

@@ -3,7 +3,7 @@
 use std::error::Error;
 use std::fmt;
 
-use crate::MAX_SHARES;
+use crate::{MAX_SECRET, MAX_SHARES};
 
 /// Why a call was refused. Nothing that was lent has changed then.
 ///
@@ -43,7 +43,7 @@ pub enum Refusal {
     InvalidShare,
     /// 9: inverse of zero, or an identifier that is not one byte. No call here gives it.
     InvalidShareElement,
-    /// 10: a secret over 4,096 bytes.
+    /// 10: a secret over [`MAX_SECRET`] bytes.
     TooLong,
     /// 11: not exactly one coefficient for each secret byte and each degree.
     CoefficientCount,
@@ -127,8 +127,10 @@ impl fmt::Display for Refusal {
             Refusal::InvalidShareElement => {
                 f.write_str("zero has no inverse, and an identifier is exactly one byte")
             }
-            Refusal::TooLong => f.write_str(
-                "the secret is longer than 4,096 bytes; share it in parts, or share the key that seals it",
+            Refusal::TooLong => write!(
+                f,
+                "the secret is longer than {MAX_SECRET} bytes; share it in parts, or share the key that \
+                 seals it"
             ),
             Refusal::CoefficientCount => f.write_str(
                 "the coefficients must be exactly as many as the secret's bytes times the threshold less 1",
@@ -229,7 +231,8 @@ mod tests {
     #[test]
     fn a_count_is_done() {
         assert_eq!(decode(0), Ok(0));
-        assert_eq!(decode(255 * 4097), Ok(255 * 4097));
+        let most = MAX_SHARES * (MAX_SECRET + 1);
+        assert_eq!(decode(most as u64), Ok(most));
         assert_eq!(decode((1 << 40) - 1), Ok((1 << 40) - 1));
     }
 

@@ -156,7 +156,10 @@ mod tests {
     fn coefficients_are_counted_without_overflow() {
         assert_eq!(coefficients_needed(0, 5), 0);
         assert_eq!(coefficients_needed(1, 5), 0);
-        assert_eq!(coefficients_needed(255, 4096), 254 * 4096);
+        assert_eq!(
+            coefficients_needed(MAX_SHARES, MAX_SECRET),
+            (MAX_SHARES - 1) * MAX_SECRET
+        );
         assert_eq!(coefficients_needed(usize::MAX, usize::MAX), usize::MAX);
     }
 

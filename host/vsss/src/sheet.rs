@@ -57,10 +57,11 @@ pub fn sheet<R: AsRef<[u8]>>(threshold: usize, rows: &[R]) -> Result<Secret, Ref
 }
 
 /// How many bytes are enough for every sheet of so many rows, with so many values each: its length
-/// if threshold, row count and identifiers had 3 digits each and the count of values 4.
+/// if threshold, row count and identifiers had 3 digits each and the count of values as many as
+/// [`MAX_SECRET`].
 ///
 /// ```
-/// assert_eq!(vsss::sheet_room(1, 32), 91);
+/// assert_eq!(vsss::sheet_room(1, 32), 92);
 /// assert_eq!(vsss::sheet(2, &[[7; 1 + 32]])?.len(), 83);
 /// # Ok::<(), vsss::Refusal>(())
 /// ```
@@ -85,14 +86,17 @@ mod tests {
 
     #[test]
     fn digits_are_counted() {
-        let counts = [0, 9, 10, 99, 100, 255, 4096, usize::MAX].map(digits);
-        assert_eq!(counts, [1, 1, 2, 2, 3, 3, 4, usize::MAX.to_string().len()]);
+        for number in [0, 9, 10, 99, 100, MAX_SHARES, MAX_SECRET, usize::MAX] {
+            assert_eq!(digits(number), number.to_string().len());
+        }
     }
 
     #[test]
     fn room_is_worked_out_without_overflow() {
-        assert_eq!(sheet_room(0, 0), 18);
-        assert_eq!(sheet_room(MAX_SHARES, MAX_SECRET), 18 + 255 * (9 + 8192));
+        let head = format!("seal\t{MAX_SHARES}\t{MAX_SHARES}\t{MAX_SECRET}\n").len();
+        assert_eq!(sheet_room(0, 0), head);
+        let rows = MAX_SHARES * (9 + 2 * MAX_SECRET);
+        assert_eq!(sheet_room(MAX_SHARES, MAX_SECRET), head + rows);
         assert_eq!(sheet_room(usize::MAX, usize::MAX), usize::MAX);
     }
 }

@@ -61,5 +61,5 @@ fn succeeds(command: &mut Command) -> Output {
 fn a_c_caller_gets_the_rows_the_secret_the_sheets_and_the_refusals() {
     let output = succeeds(&mut Command::new(compile_caller()));
     let said = String::from_utf8_lossy(&output.stdout);
-    assert_eq!(said.lines().count(), 22, "{said}");
+    assert_eq!(said.lines().count(), 29, "{said}");
 }

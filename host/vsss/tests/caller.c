@@ -1,6 +1,7 @@
-/* Calls the library from C: document 01's cases G and H, the sheet of G there and back, and refusals
- * with their places. */
+/* Calls the library from C: document 01's cases G and H, the sheet of G there and back, refusals with
+ * their places, and every entry at the longest secret and one byte beyond. */
 #include <stdio.h>
+#include <stdlib.h>
 #include <string.h>
 
 #include "vsss.h"
@@ -106,6 +107,59 @@ static void read_a_text_cut_short(void) {
     expect(head[0] == 0xee && out[0] == 0xee, "and nothing is written of it");
 }
 
+enum { LONGEST = VSSS_MAX_SECRET, ROWS = 2 };
+
+/* The bytes of two rows with so many values, one for each identifier. */
+static size_t two_rows(size_t values) { return ROWS * (values + 1); }
+
+/* The lengths of two rows with so many values. */
+static void two_lengths(uint8_t lengths[4 * ROWS], size_t values) {
+    for (int i = 0; i < 4 * ROWS; i++) lengths[i] = (uint8_t)((values + 1) >> 8 * (i % 4));
+}
+
+/* Split, combine, and a sheet there and back, for a secret of so many bytes: the answers. */
+struct answers { uint64_t split, combine, sheet, read; int is_back; };
+
+static struct answers all_of(size_t values) {
+    const uint8_t ids[ROWS] = {1, 255};
+    const size_t text_room = VSSS_SHEET_ROOM(ROWS, values);
+    struct answers got;
+    uint8_t lengths[4 * ROWS], head[VSSS_HEAD_ROOM];
+    uint8_t *secret = malloc(values), *out = malloc(values), *text = malloc(text_room);
+    uint8_t *rows = malloc(two_rows(values)), *again = malloc(two_rows(values));
+    for (size_t i = 0; i < values; i++) secret[i] = (uint8_t)(i * 7 + i / 256);
+    two_lengths(lengths, values);
+    memset(rows, 1, two_rows(values));
+    rows[values + 1] = 255;
+    got.split = vsss_split_bytes(2, ROWS, secret, values, ids, sizeof ids, secret, values,
+                                 rows, two_rows(values));
+    got.combine = vsss_combine_bytes(rows, two_rows(values), lengths, sizeof lengths, out, values);
+    got.sheet = vsss_write_sheet(2, rows, two_rows(values), lengths, sizeof lengths,
+                                 text, text_room);
+    got.read = vsss_read_sheet(text, VSSS_NUMBER(got.sheet) == 0 ? (size_t)got.sheet : 0,
+                               head, sizeof head, again, two_rows(values));
+    got.is_back = VSSS_NUMBER(got.read) == 0 && memcmp(out, secret, values) == 0
+                  && memcmp(again, rows, two_rows(values)) == 0;
+    free(secret), free(out), free(text), free(rows), free(again);
+    return got;
+}
+
+static void the_longest_secret(void) {
+    struct answers got = all_of(LONGEST);
+    expect(got.split == two_rows(LONGEST), "the longest secret is split");
+    expect(got.combine == LONGEST, "and combined");
+    expect(VSSS_NUMBER(got.sheet) == 0 && got.sheet <= VSSS_SHEET_ROOM(ROWS, LONGEST),
+           "a sheet of its rows has the room that is said");
+    expect(got.read == two_rows(LONGEST) && got.is_back, "secret and rows come back");
+}
+
+static void a_longer_secret(void) {
+    struct answers got = all_of((size_t)LONGEST + 1);
+    expect(VSSS_NUMBER(got.split) == VSSS_TOO_LONG, "one byte more is not split");
+    expect(VSSS_NUMBER(got.combine) == VSSS_TOO_LONG, "nor combined");
+    expect(VSSS_NUMBER(got.sheet) == VSSS_TOO_LONG, "nor written as a sheet");
+}
+
 int main(void) {
     split_case_g();
     combine_case_h();
@@ -115,5 +169,7 @@ int main(void) {
     sheet_of_doubled_rows();
     read_a_sheet();
     read_a_text_cut_short();
+    the_longest_secret();
+    a_longer_secret();
     return failures != 0;
 }

@@ -8,6 +8,10 @@ use vsss::{
 
 const LENT: u8 = 0xee;
 
+/// A secret of one byte too many, and a row of it.
+const LONGER: usize = MAX_SECRET + 1;
+const LONGER_ROW: u32 = LONGER as u32 + 1;
+
 /// What split answers, and what was lent for its output afterwards.
 fn split_lent(
     threshold: usize,
@@ -52,6 +56,11 @@ fn some_bytes(len: usize, seed: usize) -> Vec<u8> {
     (0..len)
         .map(|i| (((i * i + seed) * 181) >> 3) as u8)
         .collect()
+}
+
+/// A row for each identifier, with so many values.
+fn rows_of<const N: usize>(ids: [u8; N], values: usize) -> [Vec<u8>; N] {
+    ids.map(|id| vec![id; values + 1])
 }
 
 #[test]
@@ -102,23 +111,24 @@ fn any_rows_from_the_threshold_on_give_the_secret_back() {
 }
 
 #[test]
-fn the_largest_split_is_accepted_and_one_more_is_not() {
+fn the_longest_secret_and_the_most_rows_are_accepted_and_one_more_is_not() {
     let secret = some_bytes(MAX_SECRET, 3);
     let ids: Vec<u8> = (1..=255).collect();
-    let rows = split(MAX_SHARES, &ids, &secret, &some_bytes(MAX_SECRET * 254, 4)).unwrap();
+    let rows = split(2, &ids, &secret, &some_bytes(MAX_SECRET, 4)).unwrap();
     assert_eq!(rows.len(), MAX_SHARES);
     assert!(combine(&rows).unwrap()[..] == secret, "another secret");
 
-    let longer = some_bytes(MAX_SECRET + 1, 3);
+    let longer = some_bytes(LONGER, 3);
     assert_eq!(
         split(2, &[1, 2], &longer, &longer).unwrap_err(),
         Refusal::TooLong
     );
     assert_eq!(
-        combine(&[[1; 4098], [2; 4098]]).unwrap_err(),
+        combine(&rows_of([1, 2], LONGER)).unwrap_err(),
         Refusal::TooLong
     );
-    assert_eq!(combine(&[[1; 4097], [2; 4097]]).unwrap().len(), MAX_SECRET);
+    let longest = combine(&rows_of([1, 2], MAX_SECRET)).unwrap();
+    assert_eq!(longest.len(), MAX_SECRET);
 
     let more: Vec<u8> = (0..=255).collect();
     assert_eq!(
@@ -156,22 +166,22 @@ fn split_refuses_in_its_order_and_changes_nothing() {
         (
             2,
             2,
-            &[1; 5000],
+            &[1; LONGER],
             &[],
             &[9],
             Refusal::NotEnoughShareIdentifiers,
         ),
-        (2, 3, &[1; 5000], &[1, 0], &[9], zero(1)),
+        (2, 3, &[1; LONGER], &[1, 0], &[9], zero(1)),
         (
             2,
             3,
-            &[1; 5000],
+            &[1; LONGER],
             &[1, 2],
             &[9],
             Refusal::NotEnoughShareIdentifiers,
         ),
-        (2, 3, &[1; 5000], &[1, 2, 0, 0], &[9], zero(2)),
-        (2, 2, &[1; 4097], &[1, 2], &[9], Refusal::TooLong),
+        (2, 3, &[1; LONGER], &[1, 2, 0, 0], &[9], zero(2)),
+        (2, 2, &[1; LONGER], &[1, 2], &[9], Refusal::TooLong),
         (2, 2, &[1, 2], &[1, 2], &[9], Refusal::CoefficientCount),
     ];
     for (threshold, limit, secret, ids, coefficients, refusal) in calls {
@@ -204,9 +214,9 @@ fn combine_refuses_in_its_order_and_changes_nothing() {
     for (rows, lengths, refusal) in calls {
         assert_eq!(combine_lent(rows, lengths, 0), refused(refusal, 0));
     }
-    let long = [[7; 4098], [7; 4098]].concat();
+    let long = rows_of([7, 7], LONGER).concat();
     assert_eq!(
-        combine_lent(&long, &[4098, 4098], 9),
+        combine_lent(&long, &[LONGER_ROW; 2], 9),
         refused(twice(0, 1), 9)
     );
     assert_eq!(
@@ -273,15 +283,19 @@ fn a_sheet_takes_the_room_of_its_text_and_no_more() {
 fn the_largest_sheet_is_written_and_one_more_is_not() {
     let rows: Vec<Vec<u8>> = (1..=255).map(|id| vec![id; MAX_SECRET + 1]).collect();
     let text = sheet_text(MAX_SHARES, &rows);
-    assert_eq!(text.lines().next(), Some("seal\t255\t255\t4096"));
+    let head = format!("seal\t255\t255\t{MAX_SECRET}");
+    assert_eq!(text.lines().next(), Some(&head[..]));
     let last = format!("row\t255\t{}", "ff".repeat(MAX_SECRET));
     assert!(text.lines().last() == Some(&last), "another last row");
     // Room is reckoned with three digits for every identifier; 9 have one, and 90 two.
     assert_eq!(text.len(), sheet_room(MAX_SHARES, MAX_SECRET) - 2 * 9 - 90);
 
-    assert_eq!(sheet(2, &[[1; 4098]]).unwrap_err(), Refusal::TooLong);
     assert_eq!(
-        sheet(256, &[[1; 4097]]).unwrap_err(),
+        sheet(2, &rows_of([1], LONGER)).unwrap_err(),
+        Refusal::TooLong
+    );
+    assert_eq!(
+        sheet(256, &rows_of([1], MAX_SECRET)).unwrap_err(),
         Refusal::InvalidSizeRequest
     );
     assert_eq!(
@@ -294,8 +308,8 @@ fn the_largest_sheet_is_written_and_one_more_is_not() {
 fn a_sheet_is_refused_in_its_order_and_changes_nothing() {
     let zero = |place| Refusal::SharingInvalidIdentifier { place };
     let twice = |first, second| Refusal::SharingDuplicateIdentifier { first, second };
-    let long = [[7; 4098], [7; 4098]].concat();
-    let longer_than_any = &long[..4098];
+    let long = rows_of([7, 7], LONGER).concat();
+    let longer_than_any = &long[..LONGER + 1];
     // Each call would also be refused by what the next ones are refused by.
     type Call<'a> = (usize, &'a [u8], &'a [u32], Refusal);
     let calls: [Call; 15] = [
@@ -308,8 +322,8 @@ fn a_sheet_is_refused_in_its_order_and_changes_nothing() {
         (0, &[0, 1, 0], &[2, 1], Refusal::InvalidShare),
         (0, &[5, 1, 5, 1, 0, 1, 0, 1], &[2, 2, 2, 2], zero(2)),
         (0, &[5, 1, 7, 1, 7, 1, 5, 1], &[2, 2, 2, 2], twice(1, 2)),
-        (0, &long, &[4098, 4098], twice(0, 1)),
-        (0, longer_than_any, &[4098], Refusal::TooLong),
+        (0, &long, &[LONGER_ROW; 2], twice(0, 1)),
+        (0, longer_than_any, &[LONGER_ROW], Refusal::TooLong),
         (1, &[9, 1], &[2], Refusal::SharingMinThreshold),
         (256, &[9, 1], &[2], Refusal::InvalidSizeRequest),
         (usize::MAX, &[9, 1], &[2], Refusal::InvalidSizeRequest),

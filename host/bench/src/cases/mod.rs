@@ -8,7 +8,7 @@ mod split;
 use oracle::{Original, Outcome, Random};
 
 /// The same work done twice: by ours, and by what ours is put beside.
-pub trait Pair {
+pub trait Pair: Send {
     /// One call of ours.
     fn ours(&mut self);
 
@@ -42,6 +42,16 @@ pub struct Group {
     pub cases: Vec<Case>,
 }
 
+impl Group {
+    /// The case that differs from a case of the longest secret in that its secret is [`LONG`].
+    pub fn shorter(&self, case: &Case) -> Option<&Case> {
+        let (&length, others) = case.numbers.split_last()?;
+        let numbers = [others, &[LONG]].concat();
+        let shorter = self.cases.iter().find(|other| other.numbers == numbers);
+        shorter.filter(|_| length > LONG)
+    }
+}
+
 /// Every group, in the order of the pages.
 pub fn all(original: Original) -> Vec<Group> {
     vec![
@@ -55,8 +65,11 @@ pub fn all(original: Original) -> Vec<Group> {
 /// Every run has the same inputs.
 const SEED: u64 = 1;
 
-/// Lengths of the secret.
-const LENGTHS: [usize; 2] = [32, 4_096];
+/// Lengths of the secret: that of a key, a long one, and the longest.
+const LENGTHS: [usize; 3] = [32, LONG, vsss::MAX_SECRET];
+
+/// At the longest secret a byte may take no longer than at this length.
+pub const LONG: usize = 4_096;
 
 /// Rows of any values: combine and sheets take them as they come.
 fn rows(count: usize, length: usize) -> Vec<Vec<u8>> {

@@ -5,10 +5,11 @@ use std::hint::black_box;
 use oracle::line_reader::{self, Head};
 use oracle::{SheetCall, reference};
 
-use super::{Case, Group, Pair, count_written, rows};
+use super::{Case, Group, LONG, Pair, count_written, rows};
+use vsss::{MAX_SECRET, MAX_SHARES};
 
-/// Rows and their values: a few, and the largest sheet.
-const SHAPES: [(usize, usize); 2] = [(4, 32), (vsss::MAX_SHARES, vsss::MAX_SECRET)];
+/// Rows and their values: a few, many long ones, and the largest sheet.
+const SHAPES: [(usize, usize); 3] = [(4, 32), (MAX_SHARES, LONG), (MAX_SHARES, MAX_SECRET)];
 
 const LIMIT: f64 = 2.0;
 

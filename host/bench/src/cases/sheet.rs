@@ -5,10 +5,16 @@ use std::io::Write;
 
 use oracle::SheetCall;
 
-use super::{Case, Group, Pair, count_written, rows};
+use super::{Case, Group, LONG, Pair, count_written, rows};
+use vsss::{MAX_SECRET, MAX_SHARES};
 
-/// Rows, their values, and how fast ours must be at least, in megabytes of text a second.
-const SHAPES: [(usize, usize, Option<f64>); 2] = [(4, 32, None), (255, 4_096, Some(200.0))];
+/// Rows, their values, and how fast ours must be at least, in megabytes of text a second: a few, many
+/// long ones, and the largest sheet.
+const SHAPES: [(usize, usize, Option<f64>); 3] = [
+    (4, 32, None),
+    (MAX_SHARES, LONG, Some(200.0)),
+    (MAX_SHARES, MAX_SECRET, Some(200.0)),
+];
 
 const LIMIT: f64 = 2.0;
 

@@ -9,6 +9,9 @@ use super::{Case, Group, LENGTHS, Pair, SEED, count_written};
 /// Threshold and limit.
 const SHAPES: [(usize, usize); 3] = [(2, 3), (16, 32), (128, 255)];
 
+/// Of a call. One of the original takes 8 seconds for a thousand million.
+const MOST_PRODUCTS: usize = 1 << 28;
+
 const LIMIT: f64 = 0.2;
 
 pub fn group(original: SplitOriginal) -> Group {
@@ -18,7 +21,9 @@ pub fn group(original: SplitOriginal) -> Group {
         beside: "the original",
         cases: SHAPES
             .into_iter()
-            .flat_map(|shape| LENGTHS.map(|length| case(original, shape, length)))
+            .flat_map(|shape| LENGTHS.map(|length| (shape, length)))
+            .filter(|&((threshold, limit), length)| threshold * limit * length <= MOST_PRODUCTS)
+            .map(|(shape, length)| case(original, shape, length))
             .collect(),
     }
 }

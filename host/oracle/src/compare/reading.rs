@@ -4,7 +4,6 @@
 use super::expected::{answered, outcome_of, untouched, written};
 use super::sheets::Summary;
 use crate::generate::{random_read_call, random_whole_sheet, read_boundary_calls};
-use crate::reference::{MAX_LIMIT, MAX_SECRET};
 use crate::{Guarded, Outcome, Random, ReadCall, SheetCall, reference};
 
 /// Runs every boundary call and `calls` random ones. The reader takes text, output for the first
@@ -99,8 +98,8 @@ impl<R: Fn(&[u8], &mut [u8], &mut [u8]) -> u64> Judge<R> {
     }
 }
 
-/// Writes the largest set of rows and `sets` random ones, reads each text, and writes what was read:
-/// threshold and rows have to come back, and then the text.
+/// Writes `sets` random sets of rows, reads each text, and writes what was read: threshold and rows
+/// have to come back, and then the text.
 ///
 /// # Errors
 /// The first set that does not come back.
@@ -111,21 +110,18 @@ pub fn there_and_back(
     seed: u64,
 ) -> Result<(), String> {
     let mut random = Random::from_seed(seed);
-    let mut calls = vec![largest_sheet(&mut random)];
-    calls.extend((0..sets).map(|_| random_whole_sheet(&mut random)));
-    for call in calls {
+    for _ in 0..sets {
+        let call = random_whole_sheet(&mut random);
         comes_back(&write, &read, &call).map_err(|what| format!("{call}: {what}"))?;
     }
     Ok(())
 }
 
-fn largest_sheet(random: &mut Random) -> SheetCall {
-    let ids = random.distinct_ids(MAX_LIMIT).into_iter();
-    let rows = ids.map(|id| [vec![id], random.bytes(MAX_SECRET)].concat());
-    SheetCall::of_rows(MAX_LIMIT, &rows.collect::<Vec<_>>())
-}
-
-fn comes_back(
+/// Writes one set of rows, reads the text, and writes what was read.
+///
+/// # Errors
+/// What does not come back.
+pub fn comes_back(
     write: impl Fn(usize, &[u8], &[u8], &mut [u8]) -> u64,
     read: impl Fn(&[u8], &mut [u8], &mut [u8]) -> u64,
     call: &SheetCall,

@@ -1,7 +1,12 @@
 //! Document 01's bounds from either side, and its refusals in every combination.
 
-use super::{Call, LengthBytesCall};
+use super::{Call, LONG, LengthBytesCall};
+use crate::reference::{MAX_LIMIT, MAX_SECRET};
 use crate::{CombineCall, Random, SplitCall};
+
+/// Of a secret around the limit so many bytes are drawn, and then repeated: what is drawn for the
+/// calls behind it, and with it the stored sample, does not hang on the limit.
+pub(super) const DRAWN: usize = LONG + 1;
 
 /// Every boundary call. They do not depend on a seed.
 pub fn boundary_calls() -> Vec<Call> {
@@ -11,6 +16,8 @@ pub fn boundary_calls() -> Vec<Call> {
     let mut combines = combine_bounds(&mut random);
     combines.extend(combine_refusals_combined(&mut random));
     let bytes = length_byte_bounds(&mut random);
+    splits.extend(longest_splits(&mut random));
+    combines.extend(longest_combines(&mut random));
     let splits = splits.into_iter().map(Call::Split);
     let combines = combines.into_iter().map(Call::Combine);
     let bytes = bytes.into_iter().map(Call::LengthBytes);
@@ -37,6 +44,31 @@ fn fit(call: &mut SplitCall, random: &mut Random) {
     call.room = call.bytes_written().min(1 << 21);
 }
 
+/// The bytes over and over, up to a length.
+pub(super) fn repeated(bytes: &[u8], len: usize) -> Vec<u8> {
+    bytes.iter().copied().cycle().take(len).collect()
+}
+
+/// A split that nothing but its length may refuse, for a secret around the limit.
+fn long_split(random: &mut Random, threshold: usize, limit: usize, secret: usize) -> SplitCall {
+    let mut call = accepted_split(random, threshold, limit, DRAWN);
+    call.secret = repeated(&call.secret, secret);
+    let needed = call.coefficients_needed().min(3 * MAX_SECRET);
+    call.coefficients = repeated(&call.coefficients, needed);
+    call.room = call.bytes_written().min(1 << 21);
+    call
+}
+
+/// The longest secret and its neighbours.
+fn longest_splits(random: &mut Random) -> Vec<SplitCall> {
+    let lengths = [MAX_SECRET - 1, MAX_SECRET, MAX_SECRET + 1];
+    let mut calls = lengths
+        .map(|secret| long_split(random, 2, 3, secret))
+        .to_vec();
+    calls.push(long_split(random, 4, 4, MAX_SECRET));
+    calls
+}
+
 fn split_bounds(random: &mut Random) -> Vec<SplitCall> {
     let mut calls = Vec::new();
     // Thresholds and limits around every bound, with a secret and without one.
@@ -48,11 +80,12 @@ fn split_bounds(random: &mut Random) -> Vec<SplitCall> {
             }
         }
     }
-    for secret in [1, 15, 16, 17, 63, 64, 65, 127, 128, 129, 4095, 4096, 4097] {
+    let around_blocks = [1, 15, 16, 17, 63, 64, 65, 127, 128, 129];
+    for secret in around_blocks.into_iter().chain(LONG - 1..=LONG + 1) {
         calls.push(accepted_split(random, 2, 3, secret));
         calls.push(accepted_split(random, 5, 5, secret));
     }
-    calls.push(accepted_split(random, 2, 255, 4096));
+    calls.push(accepted_split(random, 2, MAX_LIMIT, LONG));
     calls.push(accepted_split(random, 128, 255, 33));
 
     for threshold in 2..=4 {
@@ -118,12 +151,11 @@ fn split_refusals_combined(random: &mut Random) -> Vec<SplitCall> {
             (true, false) => limit + 1,
             (false, false) => 2,
         };
-        let secret = match (holds(1), holds(6)) {
-            (true, _) => 0,
-            (false, true) => 4097,
-            (false, false) => 2,
+        let mut call = match (holds(1), holds(6)) {
+            (true, _) => accepted_split(random, threshold, limit, 0),
+            (false, true) => long_split(random, threshold, limit, MAX_SECRET + 1),
+            (false, false) => accepted_split(random, threshold, limit, 2),
         };
-        let mut call = accepted_split(random, threshold, limit, secret);
         if limit > 255 {
             // Never written to; a large buffer would only take time.
             call.room = 64;
@@ -158,11 +190,30 @@ pub(super) fn plain_rows(random: &mut Random, count: usize, values: usize) -> Ve
         .collect()
 }
 
+/// The same, with so many values around the limit, or over it.
+pub(super) fn long_rows(random: &mut Random, count: usize, values: usize) -> Vec<Vec<u8>> {
+    let rows = plain_rows(random, count, DRAWN).into_iter();
+    rows.map(|row| [&row[..1], &repeated(&row[1..], values)].concat())
+        .collect()
+}
+
+/// The longest secret and its neighbours, each with exactly its room and with a byte less.
+fn longest_combines(random: &mut Random) -> Vec<CombineCall> {
+    let mut calls = Vec::new();
+    for values in [MAX_SECRET - 1, MAX_SECRET, MAX_SECRET + 1] {
+        for room in [values, values - 1] {
+            let rows = long_rows(random, 2, values);
+            calls.push(CombineCall::of_rows(&rows, room));
+        }
+    }
+    calls
+}
+
 fn combine_bounds(random: &mut Random) -> Vec<CombineCall> {
     let mut calls = Vec::new();
     for (count, values) in [
-        (2, 4096),
-        (2, 4097),
+        (2, LONG),
+        (2, LONG + 1),
         (3, 1),
         (254, 3),
         (255, 3),
@@ -216,8 +267,11 @@ fn combine_refusals_combined(random: &mut Random) -> Vec<CombineCall> {
     for reasons in 0..1 << 9 {
         let holds = |reason: u32| reasons >> reason & 1 == 1;
         let count = if holds(1) { 1 } else { 5 };
-        let values = if holds(6) { 4097 } else { 3 };
-        let mut rows = plain_rows(random, count, values);
+        let mut rows = match holds(6) {
+            true => long_rows(random, count, MAX_SECRET + 1),
+            false => plain_rows(random, count, 3),
+        };
+        let values = rows[0].len() - 1;
         if holds(5) {
             // A repeat before the zero, and one around it.
             let place = if holds(8) { 1 } else { count - 1 };

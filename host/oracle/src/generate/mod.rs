@@ -14,6 +14,9 @@ pub use texts::{damaged, random_read_call, read_boundary_calls};
 
 use crate::{CombineCall, SplitCall};
 
+/// A long secret: many whole blocks, and still short enough to be tried often and stored.
+pub const LONG: usize = 4096;
+
 #[derive(Clone, Debug)]
 pub enum Call {
     Split(SplitCall),

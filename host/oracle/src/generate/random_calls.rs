@@ -1,6 +1,8 @@
 //! Random calls: accepted ones, and ones damaged in up to three ways.
 
-use super::Call;
+use super::boundaries::{DRAWN, repeated};
+use super::{Call, LONG};
+use crate::reference::MAX_SECRET;
 use crate::{CombineCall, Random, Reference, SplitCall};
 
 /// One random call.
@@ -17,7 +19,7 @@ pub fn random_call(random: &mut Random) -> Call {
 fn size(random: &mut Random) -> (usize, usize, usize) {
     match random.between(1, 1000) {
         1 => (255, 12, 64),
-        2 => (8, 4, 4096),
+        2 => (8, 4, LONG),
         3 => (60, 60, 12),
         4..=60 => (24, 12, 48),
         _ => (7, 5, 9),
@@ -80,8 +82,9 @@ fn damage_split(call: &mut SplitCall, random: &mut Random) {
         10 => call.room = call.room.saturating_sub(random.between(1, 45)),
         11 => call.room = 0,
         _ if random.once_in(20) => {
-            call.secret = random.bytes(4097);
+            call.secret = random.bytes(DRAWN);
             call.coefficients = random.bytes(call.coefficients_needed().min(1 << 16));
+            call.secret = repeated(&call.secret, MAX_SECRET + 1);
             call.room = call.bytes_written().min(1 << 16);
         }
         _ => set_somewhere(&mut call.coefficients, 0, random),
@@ -160,7 +163,9 @@ pub(super) fn damage_rows(rows: &mut Vec<Vec<u8>>, random: &mut Random) {
         5 => rows[some].push(1),
         6 => rows.truncate(random.between(0, 1)),
         7 => rows.iter_mut().for_each(|row| row.truncate(1)),
-        8 if random.once_in(20) => rows.iter_mut().for_each(|row| row.resize(4098, 3)),
+        8 if random.once_in(20) => rows
+            .iter_mut()
+            .for_each(|row| row.resize(MAX_SECRET + 2, 3)),
         // Damage that nothing can notice: the answer is another secret.
         _ => {
             let values = rows[some].len().min(1);

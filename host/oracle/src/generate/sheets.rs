@@ -1,8 +1,10 @@
 //! Sheets to compare: document 02's bounds from either side, its refusals in every combination, and
 //! random calls.
 
-use super::boundaries::plain_rows;
+use super::LONG;
+use super::boundaries::{long_rows, plain_rows};
 use super::random_calls::{damage_rows, random_rows};
+use crate::reference::{MAX_LIMIT, MAX_SECRET};
 use crate::{Random, SheetCall};
 
 /// Every boundary call. They do not depend on a seed.
@@ -44,12 +46,19 @@ fn shapes(random: &mut Random) -> Vec<SheetCall> {
         for count in [9, 10, 99, 100, 254, 255, 256, 600] {
             add(threshold, count, 3);
         }
-        for values in [9, 10, 99, 100, 999, 1000, 4095, 4096, 4097] {
+        for values in [9, 10, 99, 100, 999, 1000, 9999, 10_000] {
             add(threshold, 2, values);
         }
     }
-    // The largest sheet takes time: once is enough.
-    calls.push(SheetCall::of_rows(128, &plain_rows(random, 255, 4096)));
+    // The longest rows take time: one of them, and in two rooms, is enough.
+    for values in [MAX_SECRET - 1, MAX_SECRET, MAX_SECRET + 1] {
+        let call = SheetCall::of_rows(128, &plain_rows(random, 1, values));
+        calls.extend(in_rooms(call).step_by(3).take(2));
+    }
+    calls.push(SheetCall::of_rows(
+        128,
+        &plain_rows(random, MAX_LIMIT, LONG),
+    ));
     calls
 }
 
@@ -136,11 +145,15 @@ fn lengths(random: &mut Random) -> Vec<SheetCall> {
 /// One call for each set of reasons to refuse, so that their order shows.
 fn refusals_combined(random: &mut Random) -> Vec<SheetCall> {
     let mut calls = Vec::new();
-    for reasons in 0..1 << 10 {
+    for reasons in 0..1u32 << 10 {
         let holds = |reason: u32| reasons >> reason & 1 == 1;
         let count = if holds(1) { 0 } else { 4 };
-        let values = if holds(6) { 4097 } else { 3 };
-        let mut rows = plain_rows(random, count, values);
+        // Long rows take time: with at most three reasons besides, and with all.
+        let others = (reasons & !(1 << 6)).count_ones();
+        let mut rows = match holds(6) && (others <= 3 || others == 9) {
+            true => long_rows(random, count, MAX_SECRET + 1),
+            false => plain_rows(random, count, 3),
+        };
         if let [first, second, third, last] = rows.as_mut_slice() {
             if holds(5) {
                 last[0] = if holds(4) { first[0] } else { second[0] };

@@ -1,6 +1,7 @@
 //! Texts to read as sheets: sheets of every shape in every room, small sheets damaged in every
 //! single way, numbers at every bound and beyond, and random texts.
 
+use super::LONG;
 use super::boundaries::plain_rows;
 use super::sheets::random_whole_sheet;
 use crate::reference::{self, MAX_LIMIT, MAX_SECRET};
@@ -46,13 +47,20 @@ fn shapes(random: &mut Random) -> Vec<ReadCall> {
     for count in [9, 10, 99, 100, MAX_LIMIT - 1, MAX_LIMIT] {
         add(3, count, 3);
     }
-    for values in [9, 10, 99, 100, 999, 1000, MAX_SECRET - 1, MAX_SECRET] {
+    for values in [9, 10, 99, 100, 999, 1000, 9999, 10_000] {
         add(3, 2, values);
     }
-    // The largest sheet takes time: once is enough.
-    let rows = plain_rows(random, MAX_LIMIT, MAX_SECRET);
+    for values in [MAX_SECRET - 1, MAX_SECRET] {
+        let text = text_of(3, &plain_rows(random, 1, values));
+        calls.extend([values + 1, values].map(|room| ReadCall {
+            room,
+            ..ReadCall::of_text(text.clone())
+        }));
+    }
+    // Many long rows take time: once is enough.
+    let rows = plain_rows(random, MAX_LIMIT, LONG);
     calls.push(ReadCall {
-        room: MAX_LIMIT * (MAX_SECRET + 1),
+        room: rows.concat().len(),
         ..ReadCall::of_text(text_of(128, &rows))
     });
     calls

@@ -20,7 +20,7 @@ use crate::Outcome;
 use refusals::{lengths_from_bytes, rows_refusal, split_refusal};
 
 /// The longest secret that is accepted.
-pub const MAX_SECRET: usize = 4096;
+pub const MAX_SECRET: usize = 65_536;
 /// The most rows that a split makes.
 pub const MAX_LIMIT: usize = 255;
 /// The most rows that cross the C interface.

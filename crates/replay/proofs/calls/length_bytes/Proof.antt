@@ -3,11 +3,12 @@
 use mathlib.Core.Path.{sym}
 use Prim.Native.Nat.{ℕ}
 use lib.ListN.{length-replicate}
+use Rattle.replay.specs.Rooms.{lengths}
 use Rattle.replay.proofs.calls.length_bytes.Statement.{statement}
 use Rattle.replay.proofs.calls.length_bytes.Tie as tie
 
 returns : tie.Need-returns
-returns c = sym (length-replicate {0} {A = ℕ} 262152 0)
+returns c = sym (length-replicate {0} {A = ℕ} lengths 0)
 
 pub length-bytes-spec : {M : Type 1} → statement M
 length-bytes-spec = tie.close (tie.spec returns)

@@ -6,8 +6,8 @@ use Rattle.replay.proofs.Counts.{within, prefix}
 use Rattle.replay.proofs.calls.read_text.Statement.{statement}
 use Rattle.replay.proofs.calls.read_text.Tie as tie
 
-text-bytes-requires : tie.Need-text-bytes-requires
-text-bytes-requires c κs = search needs
+output-bytes-requires : tie.Need-output-bytes-requires
+output-bytes-requires c κs = search needs
 
 slice-aggregate-bytes-at : tie.Need-slice-aggregate-bytes-at
 slice-aggregate-bytes-at c = search needs
@@ -37,7 +37,7 @@ pub read-text-spec : {M : Type 1} → statement M
 read-text-spec =
     tie.close
     (tie.spec
-    text-bytes-requires
+    output-bytes-requires
     slice-aggregate-bytes-at
     bytes-at-requires
     enum-known-filled

@@ -3,11 +3,12 @@
 use mathlib.Core.Path.{sym}
 use Prim.Native.Nat.{ℕ}
 use lib.ListN.{length-replicate}
+use Rattle.replay.specs.Rooms.{rows}
 use Rattle.replay.proofs.calls.row_bytes.Statement.{statement}
 use Rattle.replay.proofs.calls.row_bytes.Tie as tie
 
 returns : tie.Need-returns
-returns c = sym (length-replicate {0} {A = ℕ} 140000 0)
+returns c = sym (length-replicate {0} {A = ℕ} rows 0)
 
 pub row-bytes-spec : {M : Type 1} → statement M
 row-bytes-spec = tie.close (tie.spec returns)

@@ -1,8 +1,6 @@
 // Document 01's modules 1 and 2: the zero tests, which stand in a crate below, the bounded sum and the sampler.
 ghost use mathlib.Core.Path.{_≡_};
 ghost use Rattle.util.specs.Small.{boundedAdd, uniformNonzero};
-pub use signs::as_i8;
-pub use signs::as_u8;
 pub use zero::ct_is_not_zero_bytes;
 pub use zero::ct_is_not_zero_i8;
 pub use zero::ct_is_not_zero_i16;

@@ -54,8 +54,9 @@ byte, onto a vector that has the room already. It judges nothing and hides nothi
 tabs and pushes the value of two digits at a time onto a vector that has the room already. It judges \
 all that ours does, and gives the same line where it refuses.
 - Memory: the peak of what the process holds, as the system counts it, from before a call to after \
-it. The call runs on a fresh stack, and all that it is lent has been written before. The library knows \
-no heap: it calls nothing but `memcpy` and `memset`.
+it. The call runs on a fresh stack, and all that it is lent has been written before. The count \
+may miss some pages, hence the limit. The library knows no heap: it calls nothing but `memcpy` and \
+`memset`.
 - A megabyte is a million bytes.
 "
     )

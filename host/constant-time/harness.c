@@ -1,7 +1,10 @@
-/* Calls split, combine and the writer of sheets under valgrind's memcheck with every secret byte
- * marked undefined. Memcheck then reports each jump and each address that depends on one. What is
- * public stays defined: identifiers, lengths, thresholds. The reader of sheets judges its text, and
- * so has jumps that depend on all of it.
+/* Calls split, combine, the writer and the reader of sheets under valgrind's memcheck with every
+ * secret byte marked undefined. Memcheck then reports each jump and each address that depends on
+ * one. What is public stays defined: identifiers, lengths, thresholds.
+ *
+ * There must be no report but the reader's: one jump a row tells whether all its digits are hex, as
+ * in every sheet they are, and nothing else depends on a value. So its reports are counted call by
+ * call.
  *
  * Memcheck follows the marks, not the values. Without a report the path is the same for every
  * secret of a shape, so one secret a shape is enough, and the shapes are chosen for the paths:
@@ -21,12 +24,21 @@ enum { UNTOUCHED = 0xee };
  * shapes of many rows, which would take minutes with the longest. */
 enum { LONGEST = VSSS_MAX_SECRET, LONG = 4096 };
 
-static unsigned splits, combines, sheets, refusals;
+static unsigned splits, combines, sheets, reads, refusals;
+
+/* Rows whose digits the reader has judged, and its reports beyond one for each of them. */
+static unsigned judged_rows, more_reports;
+
+static void tell_counts(void) {
+    printf("%u splits, %u combines, %u sheets written, %u read, %u refusals", splits, combines,
+           sheets, reads, refusals);
+}
 
 static void require(int holds, const char *what) {
     if (holds) return;
-    printf("WRONG: %s (after %u splits, %u combines, %u sheets, %u refusals)\n", what, splits,
-           combines, sheets, refusals);
+    printf("WRONG: %s (after ", what);
+    tell_counts();
+    puts(")");
     exit(1);
 }
 
@@ -80,13 +92,20 @@ static void hide(uint8_t *from, size_t len) { (void)VALGRIND_MAKE_MEM_UNDEFINED(
 
 static void reveal(uint8_t *from, size_t len) { (void)VALGRIND_MAKE_MEM_DEFINED(from, len); }
 
-/* Whether each of the bytes has these marks: a set bit is undefined. Asking reports nothing. */
-static int marked(const uint8_t *from, size_t len, uint8_t marks) {
-    for (size_t i = 0; i < len; i++) {
-        uint8_t found;
-        if (VALGRIND_GET_VBITS(from + i, &found, 1) != 1 || found != marks) return 0;
-    }
-    return 1;
+/* The marks of the bytes: a set bit is undefined. Asking reports nothing. */
+static uint8_t *marks_of(const uint8_t *from, size_t len) {
+    uint8_t *marks = bytes(len);
+    require(VALGRIND_GET_VBITS(from, marks, len) == 1, "marks are read");
+    return marks;
+}
+
+/* Whether each of the bytes has these marks. */
+static int marked(const uint8_t *from, size_t len, uint8_t expected) {
+    uint8_t *marks = marks_of(from, len);
+    size_t i = 0;
+    while (i < len && marks[i] == expected) i++;
+    free(marks);
+    return i == len;
 }
 
 /* Each bit of a value depends on secret bits, so each must be undefined. Were the marks lost on the
@@ -123,11 +142,11 @@ static void combine(uint8_t *rows, size_t count, const uint8_t *secret, size_t l
     free(out);
 }
 
-static void require_rows(const uint8_t *rows, const uint8_t *ids, size_t limit, size_t len) {
-    for (size_t i = 0; i < limit; i++) {
-        const uint8_t *row = rows + i * (len + 1);
-        require(is_public(row, 1) && row[0] == ids[i], "a row starts with its public identifier");
-        require(is_secret(row + 1, len), "the values are secret");
+static void require_row_marks(const uint8_t *rows, size_t count, size_t row_len) {
+    for (size_t i = 0; i < count; i++) {
+        const uint8_t *row = rows + i * row_len;
+        require(is_public(row, 1), "the identifier of a row is public");
+        require(is_secret(row + 1, row_len - 1), "the values are secret");
     }
 }
 
@@ -141,7 +160,9 @@ static void split(size_t threshold, size_t limit, size_t len) {
     uint64_t word = public_word(vsss_split_bytes(threshold, limit, secret, len, ids, limit,
                                                  coefficients, coefficients_len, rows, rows_len));
     require(word == rows_len, "a split is done");
-    require_rows(rows, ids, limit, len);
+    require_row_marks(rows, limit, len + 1);
+    for (size_t i = 0; i < limit; i++)
+        require(rows[i * (len + 1)] == ids[i], "a row starts with its identifier");
     splits++;
     reveal(secret, len);
     reveal(rows, rows_len);
@@ -200,8 +221,7 @@ static struct plain plain_sheet(size_t threshold, const uint8_t *rows, size_t co
 /* What no value decides is public, what a value decides is secret. The bits of a digit that are
  * the same in all digits may be either. */
 static void require_sheet_marks(const uint8_t *text, const struct plain *plain) {
-    uint8_t *marks = bytes(plain->len);
-    require(VALGRIND_GET_VBITS(text, marks, plain->len) == 1, "the marks of a sheet are read");
+    uint8_t *marks = marks_of(text, plain->len);
     for (size_t i = 0; i < plain->len; i++) {
         uint8_t depends = plain->depends[i];
         if (depends == 0) require(marks[i] == 0, "a sheet is public around its values");
@@ -210,20 +230,70 @@ static void require_sheet_marks(const uint8_t *text, const struct plain *plain) 
     free(marks);
 }
 
-/* Identifiers from the first on. There is room for the text and no byte more. */
+/* Every bit of the digits of the values, and nothing else. */
+static void hide_digits(uint8_t *text, const struct plain *plain) {
+    uint8_t *marks = bytes(plain->len);
+    for (size_t i = 0; i < plain->len; i++) marks[i] = plain->depends[i] == 0 ? 0 : 0xff;
+    require(VALGRIND_SET_VBITS(text, marks, plain->len) == 1, "marks are set");
+    free(marks);
+}
+
+/* Calls the reader on a text of which it judges the digits of so many rows. Fewer reports say that
+ * these are not marked. Those beyond are counted, since a planted leak is to be seen by them. */
+static uint64_t read_text(const uint8_t *text, size_t text_len, uint8_t *head, size_t head_len,
+                          uint8_t *out, size_t out_len, size_t judged) {
+    unsigned before = VALGRIND_COUNT_ERRORS;
+    uint64_t word = vsss_read_sheet(text, text_len, head, head_len, out, out_len);
+    unsigned reports = VALGRIND_COUNT_ERRORS - before;
+    require(reports >= judged, "each row that is judged has its report");
+    judged_rows += judged;
+    more_reports += reports - judged;
+    return public_word(word);
+}
+
+static void require_number(const uint8_t *four, size_t number) {
+    for (size_t i = 0; i < 4; i++)
+        require(four[i] == (uint8_t)(number >> 8 * i), "the head has the numbers of the sheet");
+}
+
+/* Reads a sheet that was written of these rows. There is room for the rows and no byte more. */
+static void read_back(uint8_t *text, const struct plain *plain, size_t threshold,
+                      const uint8_t *rows, size_t count, size_t len) {
+    size_t rows_len = count * (len + 1);
+    uint8_t *head = bytes(VSSS_HEAD_ROOM), *out = bytes(rows_len);
+    hide_digits(text, plain);
+    uint64_t word = read_text(text, plain->len, head, VSSS_HEAD_ROOM, out, rows_len, count);
+    require(word == rows_len, "a sheet is read");
+    require(is_public(head, VSSS_HEAD_ROOM), "the head is public");
+    require_number(head, threshold);
+    require_number(head + 4, count);
+    require_number(head + 8, len);
+    require_row_marks(out, count, len + 1);
+    reveal(out, rows_len);
+    require(memcmp(out, rows, rows_len) == 0, "the sheet gives its rows back");
+    reads++;
+    free(head);
+    free(out);
+}
+
+/* Writes a sheet of rows, with identifiers from the first on, and reads it. There is room for the
+ * text and no byte more. */
 static void sheet(size_t threshold, size_t first_id, size_t count, size_t len) {
+    size_t rows_len = count * (len + 1);
     uint8_t *rows = some_rows(first_id, count, len + 1);
     uint8_t *lengths = equal_lengths(count, len + 1);
     struct plain plain = plain_sheet(threshold, rows, count, len);
     uint8_t *out = bytes(plain.len);
     hide_values(rows, count, len + 1);
-    uint64_t word = public_word(vsss_write_sheet(threshold, rows, count * (len + 1), lengths,
-                                                 4 * count, out, plain.len));
+    uint64_t word = public_word(
+        vsss_write_sheet(threshold, rows, rows_len, lengths, 4 * count, out, plain.len));
     require(word == plain.len, "a sheet is done");
     require_sheet_marks(out, &plain);
     reveal(out, plain.len);
+    reveal(rows, rows_len);
     require(memcmp(out, plain.text, plain.len) == 0, "a sheet is as the plain writer's");
     sheets++;
+    read_back(out, &plain, threshold, rows, count, len);
     free(rows);
     free(lengths);
     free(plain.text);
@@ -251,6 +321,15 @@ struct rows_call {
 struct sheet_call {
     size_t threshold;
     struct rows_call rows;
+};
+
+/* Of the reader: a character of the sheet of the three right rows is another, or the text is cut or
+ * longer. The digits of so many rows are judged. */
+struct read_call {
+    unsigned number;
+    size_t line, judged, at;
+    char character;
+    size_t text_len, head_room, room;
 };
 
 static const uint8_t right[] = {7, 1, 9}, zero[] = {7, 1, 0}, twice[] = {1, 7, 9, 7};
@@ -295,9 +374,30 @@ static const struct sheet_call refused_sheets[] = {
     {2, {VSSS_NO_ROOM, 3, 21, 21, 63, 152, right}},
 };
 
+/* The first line has 12 bytes, each other 47: 6, then 40 digits and the line feed. */
+static const struct read_call refused_reads[] = {
+    {VSSS_INVALID_SHEET, 0, 0, 0, 'S', 153, 12, 63},
+    {VSSS_INVALID_SHEET, 0, 0, 0, 's', 5, 12, 63},
+    {VSSS_INVALID_SHEET, 1, 0, 12, 'R', 153, 12, 63},
+    {VSSS_INVALID_SHEET, 1, 0, 16, 'x', 153, 12, 63},
+    {VSSS_INVALID_SHEET, 1, 1, 18, 'g', 153, 12, 63},
+    {VSSS_INVALID_SHEET, 2, 2, 104, 'F', 153, 12, 63},
+    {VSSS_INVALID_SHEET, 2, 2, 105, ' ', 153, 12, 63},
+    {VSSS_INVALID_SHEET, 3, 3, 110, '7', 153, 12, 63},
+    {VSSS_INVALID_SHEET, 3, 2, 0, 's', 151, 12, 63},
+    {VSSS_INVALID_SHEET, 3, 3, 0, 's', 152, 12, 63},
+    {VSSS_INVALID_SHEET, 4, 3, 153, '0', 154, 12, 63},
+    {VSSS_NO_ROOM, 0, 3, 0, 's', 153, 11, 63},
+    {VSSS_NO_ROOM, 0, 3, 0, 's', 153, 12, 62},
+};
+
+static void require_untouched(const uint8_t *out, size_t room) {
+    for (size_t i = 0; i < room; i++) require(out[i] == UNTOUCHED, "a refusal writes nothing");
+}
+
 static void require_refused(uint64_t word, unsigned number, const uint8_t *out, size_t room) {
     require(VSSS_NUMBER(public_word(word)) == number, "a call is refused for its reason");
-    for (size_t i = 0; i < room; i++) require(out[i] == UNTOUCHED, "a refusal writes nothing");
+    require_untouched(out, room);
     refusals++;
 }
 
@@ -350,6 +450,28 @@ static void refuse_sheet(size_t threshold, const struct rows_call *c) {
     free(out);
 }
 
+static void refuse_read(const struct read_call *c) {
+    uint8_t *rows = some_bytes(63), *text = bytes(c->text_len);
+    uint8_t *head = bytes(c->head_room), *out = bytes(c->room);
+    for (size_t i = 0; i < 3; i++) rows[21 * i] = right[i];
+    struct plain plain = plain_sheet(2, rows, 3, 20);
+    put_words(&plain, "\n");
+    plain.text[c->at] = (uint8_t)c->character;
+    plain.len = c->text_len;
+    memcpy(text, plain.text, plain.len);
+    hide_digits(text, &plain);
+    uint64_t word = read_text(text, plain.len, head, c->head_room, out, c->room, c->judged);
+    require_refused(word, c->number, out, c->room);
+    require_untouched(head, c->head_room);
+    require(VSSS_FIRST_PLACE(word) == c->line, "a text is refused at its line");
+    free(rows);
+    free(text);
+    free(head);
+    free(out);
+    free(plain.text);
+    free(plain.depends);
+}
+
 /* Shapes */
 
 static void refused_shapes(void) {
@@ -357,6 +479,7 @@ static void refused_shapes(void) {
     for (size_t i = 0; i < COUNT(refused_combines); i++) refuse_combine(refused_combines + i);
     for (size_t i = 0; i < COUNT(refused_sheets); i++)
         refuse_sheet(refused_sheets[i].threshold, &refused_sheets[i].rows);
+    for (size_t i = 0; i < COUNT(refused_reads); i++) refuse_read(refused_reads + i);
 }
 
 static void small_shapes(void) {
@@ -419,7 +542,8 @@ int main(int argc, char **argv) {
         large_shapes();
         large_sheets();
     }
-    printf("%u splits, %u combines, %u sheets, %u refusals, answers right\n", splits, combines,
-           sheets, refusals);
+    tell_counts();
+    printf(", answers right; %u rows judged, %u reports beyond one a row\n", judged_rows,
+           more_reports);
     return 0;
 }

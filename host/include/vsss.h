@@ -87,8 +87,8 @@ uint64_t vsss_write_sheet(size_t threshold,
  *          values, four bytes each, least first
  *   out    at least count * (values + 1) bytes; VSSS_ROWS_ROOM of them are always enough
  *
- * Every byte of the text is judged, so jumps depend on it: on its values too, which is so in no other
- * entry.
+ * One jump a row tells whether all its digits are hex. No other jump, and no address, depends on a
+ * value.
  *
  * Done: the count of bytes written to `out`. Bytes behind those written keep their values, in both.
  * Refused: as above. For VSSS_INVALID_SHEET the first place is a line, counted from 0: the first with

@@ -1,7 +1,8 @@
 //! What a sheet has at the line where a text stops being one, and what the text has there instead.
 //!
 //! The library alone decides that a text is no sheet, and at which line. Here are only words for it.
-//! They show no digit of a value: what is read is as secret as a sheet.
+//! They show no digit of a value, and name one a hex digit at most: what is read is as secret as a
+//! sheet.
 
 use vsss::{MAX_SECRET, MAX_SHARES};
 
@@ -79,20 +80,28 @@ enum Field {
     Word(&'static [u8]),
     /// From the first number to the second, without leading zeros.
     Number(usize, usize),
+    /// A number before a tab, right as a whole or not at all: where the tab is missing, how many digits
+    /// are right would tell of the values behind them.
+    Identifier,
     HexDigits(usize),
 }
 
-const HEAD: [Field; 4] = [
-    Field::Word(b"seal"),
+const TAB_ALONE: Field = Field::Word(&[TAB]);
+
+const HEAD: [Field; 6] = [
+    Field::Word(b"seal\t"),
     Field::Number(2, MAX_SHARES),
+    TAB_ALONE,
     Field::Number(1, MAX_SHARES),
+    TAB_ALONE,
     Field::Number(1, MAX_SECRET),
 ];
 
-fn row_fields(values: usize) -> [Field; 3] {
+fn row_fields(values: usize) -> [Field; 4] {
     [
-        Field::Word(b"row"),
-        Field::Number(1, MAX_SHARES),
+        Field::Word(b"row\t"),
+        Field::Identifier,
+        TAB_ALONE,
         Field::HexDigits(2 * values),
     ]
 }
@@ -107,15 +116,18 @@ fn found(lines: &[&[u8]], line: usize, fields: &[Field]) -> String {
         Some(here) => (here, true),
         None => (here, false),
     };
-    let (count, is_whole) = fit(here, fields);
-    match (here.get(count), is_whole, is_ended) {
+    let (count, unfit) = fit(here, fields);
+    match (here.get(count), unfit, is_ended) {
         (Some(&other), ..) if count == 0 => format!("it begins with {}", named(other)),
+        (Some(_), Some(Field::Identifier), _) => {
+            format!("{}, then comes no identifier before a tab", right(count))
+        }
         (Some(&other), ..) => format!("{}, then comes {}", right(count), named(other)),
-        (None, true, true) => repeated(lines, line),
-        (None, true, false) => "its line feed is missing".to_string(),
-        (None, false, true) if count == 0 => "it is empty".to_string(),
-        (None, false, true) => format!("{}, then it ends", right(count)),
-        (None, false, false) => format!("{}, then the text ends", right(count)),
+        (None, None, true) => repeated(lines, line),
+        (None, None, false) => "its line feed is missing".to_string(),
+        (None, Some(_), true) if count == 0 => "it is empty".to_string(),
+        (None, Some(_), true) => format!("{}, then it ends", right(count)),
+        (None, Some(_), false) => format!("{}, then the text ends", right(count)),
     }
 }
 
@@ -131,7 +143,7 @@ fn named(character: u8) -> &'static str {
         TAB => "a tab",
         b' ' => "a space",
         b'\r' => "a carriage return",
-        b'0'..=b'9' => "a digit",
+        _ if is_hex_digit(character) => "a hex digit",
         b'A'..=b'Z' => "a capital letter",
         b'a'..=b'z' => "a letter",
         _ => "another character",
@@ -147,24 +159,22 @@ fn repeated(lines: &[&[u8]], line: usize) -> String {
     }
 }
 
-/// How many characters of a line are right: such a line can begin with them. And whether they are
-/// all that it should have.
-fn fit(line: &[u8], fields: &[Field]) -> (usize, bool) {
+fn is_hex_digit(character: u8) -> bool {
+    matches!(character, b'0'..=b'9' | b'a'..=b'f')
+}
+
+/// How many characters of a line are right: such a line can begin with them. And the field that they
+/// do not go through, unless they are all that it should have.
+fn fit<'a>(line: &[u8], fields: &'a [Field]) -> (usize, Option<&'a Field>) {
     let mut count = 0;
-    for (place, field) in fields.iter().enumerate() {
-        if place > 0 {
-            if line.get(count) != Some(&TAB) {
-                return (count, false);
-            }
-            count += 1;
-        }
+    for field in fields {
         let (more, is_whole) = fit_field(&line[count..], field);
         count += more;
         if !is_whole {
-            return (count, false);
+            return (count, Some(field));
         }
     }
-    (count, true)
+    (count, None)
 }
 
 fn fit_field(line: &[u8], field: &Field) -> (usize, bool) {
@@ -174,9 +184,13 @@ fn fit_field(line: &[u8], field: &Field) -> (usize, bool) {
             (count, count == word.len())
         }
         Field::Number(least, most) => fit_number(line, least, most),
+        Field::Identifier => match fit_number(line, 1, MAX_SHARES) {
+            (count, true) if line.get(count) == Some(&TAB) => (count, true),
+            _ => (0, false),
+        },
         Field::HexDigits(needed) => {
-            let is_digit = |c: &&u8| matches!(c, b'0'..=b'9' | b'a'..=b'f');
-            let count = line.iter().take(needed).take_while(is_digit).count();
+            let digits = line.iter().take(needed);
+            let count = digits.take_while(|&&c| is_hex_digit(c)).count();
             (count, count == needed)
         }
     }
@@ -242,12 +256,12 @@ mod tests {
             (
                 "seal\t2",
                 "seal\t02",
-                "its first 5 characters are right, then comes a digit",
+                "its first 5 characters are right, then comes a hex digit",
             ),
             (
                 "seal\t2",
                 "seal\t256",
-                "its first 7 characters are right, then comes a digit",
+                "its first 7 characters are right, then comes a hex digit",
             ),
             (
                 "\t2\n",
@@ -262,13 +276,13 @@ mod tests {
             ("seal\t2\t3\t2", "", "it is empty"),
             (
                 "row\t20",
-                "row\t0",
-                "its first 4 characters are right, then comes a digit",
+                "row20",
+                "its first 3 characters are right, then comes a hex digit",
             ),
             (
-                "row\t20",
+                "row\t20\t2000",
                 "row\t",
-                "its first 4 characters are right, then comes a tab",
+                "its first 4 characters are right, then it ends",
             ),
             (
                 "2fab",
@@ -278,7 +292,12 @@ mod tests {
             (
                 "2fab",
                 "2fab0",
-                "its first 10 characters are right, then comes a digit",
+                "its first 10 characters are right, then comes a hex digit",
+            ),
+            (
+                "2fab",
+                "2faba",
+                "its first 10 characters are right, then comes a hex digit",
             ),
             (
                 "2fab",
@@ -298,6 +317,20 @@ mod tests {
         ];
         for (from, to, said) in wrong {
             assert_eq!(changed(from, to), said);
+        }
+    }
+
+    #[test]
+    fn what_is_no_identifier_is_named_as_a_whole() {
+        let said = "its first 4 characters are right, then comes no identifier before a tab";
+        for wrong in ["\t", "0\t", "02\t", "256\t", "a\t", "20 "] {
+            assert_eq!(changed("20\t", wrong), said);
+        }
+        assert_eq!(found_in(&SHEET.as_bytes()[..28]).unwrap(), said);
+        // Without a tab, as many digits as can be are the identifier's. How many tells of the values.
+        for values in ["00", "25", "2f", "f2", "ff"] {
+            let text = format!("seal\t2\t1\t1\nrow\t1{values}\n");
+            assert_eq!(found_in(text.as_bytes()).unwrap(), said);
         }
     }
 

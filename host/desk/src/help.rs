@@ -25,7 +25,7 @@ Each has a page of its own: 'desk split --help'.
 
 Any T rows of a split give the key back. Fewer than T say nothing of it.
 
-WARNING: row files do not say T. With too few of them, or with a damaged row, combine succeeds and
+WARNING: row files do not say T. With too few of them, or with a damaged value, combine succeeds and
 the key that it writes is WRONG. Note T with the rows, and try the key before you rely on it.
 
 Exit status: 0 done
@@ -77,9 +77,9 @@ in .row.
 
 Sheets say the threshold. All must say the same, and fewer rows than that are refused.
 
-WARNING: row files do not say it. With too few of them, and always with a damaged row or with rows of
-different splits, combine succeeds and the key is WRONG. Nothing in the rows can show that: try the
-key before you rely on it, and keep the rows until then.
+WARNING: row files do not say it. With too few of them, and always with a damaged value, combine
+succeeds and the key is WRONG. So it can be with rows of different splits. Nothing in the rows can
+show that: try the key before you rely on it, and keep the rows until then.
 ";
 
 pub const SHEET: &str = "\

@@ -9,7 +9,7 @@ use crate::damage;
 use crate::failure::Failure;
 use crate::input::read_at_most;
 
-/// One byte more than the largest sheet has. What is longer is no sheet, and is refused at the same
+/// More bytes than the largest sheet has. A file with as many is no sheet, and is refused at the same
 /// line by its beginning as it would be by all of it: no line that ends further on can be right.
 const READ_LIMIT: usize = vsss::sheet_room(MAX_SHARES, MAX_SECRET) + 1;
 

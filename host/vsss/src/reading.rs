@@ -75,8 +75,8 @@ pub struct Sheet {
 /// which the text can no longer be continued to a sheet. Where every complete line can, and the last
 /// line feed or a row is missing, it is the line behind them.
 ///
-/// The text is judged byte by byte, so that, unlike elsewhere in this library, the time that it
-/// takes depends on the values.
+/// One jump a row tells whether all its digits are hex. No other jump, and no address, depends on a
+/// value.
 ///
 /// ```
 /// use vsss::Refusal;

@@ -29,7 +29,7 @@ const IDS: usize = 300;
 // Of rows: two of the longest, or as many of the shortest as are ever taken.
 const ROWS: usize = 2 * MAX_SECRET + 140000;
 
-// Of lengths: two more than are ever taken.
+// Of lengths: three more than are ever taken.
 const LENGTHS: usize = 262152;
 
 // The contracts keep the contents of the buffers out of the proofs, which would be as long.

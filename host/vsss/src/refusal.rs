@@ -34,9 +34,9 @@ pub enum Refusal {
     },
     /// 7: two rows of a set carry one identifier. Split never gives it.
     SharingDuplicateIdentifier {
-        /// The place before it with that identifier.
+        /// The earlier place, with the same identifier as `second`.
         first: usize,
-        /// The least place whose identifier stands before it.
+        /// The least place whose identifier stands at an earlier one.
         second: usize,
     },
     /// 8: the first row has under 2 bytes, or the rows differ in length.

@@ -11,7 +11,7 @@ use lib.ListN.{length, getD, take}
 use lib.Seq.{take-suc}
 use borrow.Author.Tests.{leb-true, le-leb}
 use Rattle.shamir.specs.Lists.{All}
-use Rattle.shamir.proofs.Lists.{all-append}
+use Rattle.shamir.proofs.Lists.{all-append, all-parts}
 use Rattle.sheets.specs.ReadAs.{IsHexDigit}
 use Rattle.reading.proofs.LineTests.{both}
 use Rattle.reader.proofs.DigitsRead.{yes-no, no-yes}
@@ -51,10 +51,6 @@ pub record Told (xs : List ℕ) (k : ℕ) (all : Bool) : Type 0 where
 pub told-none : (xs : List ℕ) → Told xs 0 true
 told-none xs = record { yes = λ e. tt; no = λ e. yes-no e }
 
-parts : (xs ys : List ℕ) → All IsHexDigit (xs ++ ys) → All IsHexDigit xs × All IsHexDigit ys
-parts [] ys h = (tt, h)
-parts (x ∷ xs) ys h = let r = parts xs ys (h .1) in ((h .0, r .0), r .1)
-
 not-both : (a b : Bool) {P : Type 0} → (a && b) ≡ false → (a ≡ false → P) → (b ≡ false → P) → P
 not-both true b e f g = g e
 not-both false b e f g = f refl
@@ -64,7 +60,7 @@ pub told-more : {xs : List ℕ} {k : ℕ} {all : Bool} (c : ℕ) (b : Bool) → 
 told-more {xs} {k} {all} c b t more is digit other = record {
   yes = λ e. let p = both all b e in subst (All IsHexDigit) step (all-append IsHexDigit (take k xs) (c ∷ []) (t .yes (p .0)) (digit (p .1), tt));
   no = λ e h.
-      let r = parts (take k xs) (c ∷ []) (subst (All IsHexDigit) (sym step) h) in
+      let r = all-parts IsHexDigit (take k xs) (c ∷ []) (subst (All IsHexDigit) (sym step) h) in
       not-both all b e (λ d. t .no d (r .0)) (λ d. other d (r .1 .0));
 }
   where

@@ -10,7 +10,7 @@ use lib.Dec.{eqb}
 use lib.ListN.{length}
 use borrow.Author.Tests.{eqb-true, eqb-false}
 use Rattle.shamir.specs.Lists.{Fresh, Distinct}
-use Rattle.shamir.proofs.Lists.{all-append}
+use Rattle.shamir.proofs.Lists.{all-append, all-parts}
 
 -- xs without any x
 abbrev others : ℕ → List ℕ → List ℕ
@@ -60,8 +60,4 @@ distinct-then (a ∷ xs) x d f =
 -- one is not among those before it
 pub distinct-before : (xs : List ℕ) (x : ℕ) (ys : List ℕ) → Distinct (xs ++ x ∷ ys) → Fresh x xs
 distinct-before [] x ys d = tt
-distinct-before (a ∷ xs) x ys d = ((λ e. middle xs (d .0) (sym e)), distinct-before xs x ys (d .1))
-  where
-    middle : (zs : List ℕ) → Fresh a (zs ++ x ∷ ys) → x ≡ a → ⊥
-    middle [] f = f .0
-    middle (z ∷ zs) f = middle zs (f .1)
+distinct-before (a ∷ xs) x ys d = ((λ e. all-parts (λ b. b ≡ a → ⊥) xs (x ∷ ys) (d .0) .1 .0 (sym e)), distinct-before xs x ys (d .1))

@@ -1,66 +1,44 @@
 -- The text of a first line in range and of as many rows with different identifiers is a sheet: the writer accepts them laid together.
 -- Assumes nothing.
 use mathlib.Core.Path.{_≡_, refl, sym, ap, ap₂, _∙_}
-use mathlib.Core.Bool.{true, false}
-use mathlib.Core.List.{List, [], _∷_, map}
+use mathlib.Core.Bool.{false}
+use mathlib.Core.List.{List, map}
 use Prim.Native.Nat.{ℕ, _+_, _*_, _-_, _^_, _<_, _≤_}
 use native.Mathlib.Nat.{le-refl}
 use native.Mathlib.Omega.{arith}
-use lib.Dec.{eqb, ltb}
+use lib.Dec.{ltb}
 use lib.ListN.{length, getD, length-map}
-use borrow.Author.Tests.{eq-eqb, le-ltb}
+use borrow.Author.Tests.{le-ltb}
 use Rattle.answer.specs.Outcome.{Outcome, done}
 use Rattle.shamir.specs.Lists.{All, Below, Fresh}
 use Rattle.shamir.proofs.Lists.{all-map, all-both}
-use Rattle.rows.specs.Search.{sum, allAre, firstRepeated, placeOf, within}
 use Rattle.rows.specs.Storage.{cut, laid, identifiers}
 use Rattle.rows.specs.Lengths.{lengthBytes}
-use Rattle.rows.proofs.Search.{place-fresh, not-within}
-use Rattle.rows.proofs.Repeats.{repeated-distinct}
-use Rattle.rows.proofs.Storage.{all-equal}
-use Rattle.rows.proofs.Laid.{cut-laid, sum-laid}
-use Rattle.row_set.specs.Limits.{maxSecret, maxShares}
-use Rattle.row_set.specs.RowSet.{secretLength, judged, judgedRows}
+use Rattle.rows.proofs.Laid.{cut-laid}
+use Rattle.row_set.specs.Limits.{maxShares}
+use Rattle.row_set.specs.RowSet.{secretLength, judgedRows}
 use Rattle.row_set.proofs.RowSet.{by-lengths}
+use Rattle.row_set.proofs.LaidRows.{values-each, laid-pass}
 use Rattle.sheets.specs.Sheet.{sheet, sheetText, judgedThreshold, sheetAnswer}
 use Rattle.reading.specs.Unsheet.{SheetOf}
 use Rattle.reading.specs.Lines.{Head, Row, Rows}
-use Rattle.reading.proofs.LaidRows.{below-laid, lengths-same, length-length-bytes, lengths-of, below-length-bytes}
+use Rattle.reading.proofs.LaidRows.{below-laid, length-length-bytes, lengths-of, below-length-bytes}
 
-module _ (l : ℕ) where
-  first-long : (rows : List (List ℕ)) → 0 < length rows → All (Row l) rows → getD (map length rows) 0 0 ≡ l + 1
-  first-long [] h k = absurd (omega arith)
-  first-long (r ∷ rows) h k = k .0 .long
-
-  all-long : (rows : List (List ℕ)) → All (Row l) rows → allAre (l + 1) (map length rows) ≡ true
-  all-long rows k = ap (allAre (l + 1)) (lengths-same l rows k) ∙ all-equal (l + 1) (length rows)
-
-  nonzero-ids : (rows : List (List ℕ)) → All (Row l) rows → Fresh 0 (identifiers rows)
-  nonzero-ids rows k = all-map (Row l) (λ a. a ≡ 0 → ⊥) (λ r. getD r 0 0) (λ r h e. omega (arith, h .nonzero)) rows k
+nonzero-ids : (l : ℕ) (rows : List (List ℕ)) → All (Row l) rows → Fresh 0 (identifiers rows)
+nonzero-ids l rows k = all-map (Row l) (λ a. a ≡ 0 → ⊥) (λ r. getD r 0 0) (λ r h e. omega (arith, h .nonzero)) rows k
 
 module _ (t l : ℕ) (rows : List (List ℕ)) (h : Head t (length rows) l) (k : Rows l rows) where
   abbrev ns : List ℕ
   ns = map length rows
 
-  first-is : getD ns 0 0 ≡ l + 1
-  first-is = first-long l rows (h .some-rows) (k .each)
+  long : All (λ r. length r ≡ l + 1) rows
+  long = all-both (Row l) (Row l) (λ r. length r ≡ l + 1) (λ r p q. p .long) rows (k .each) (k .each)
 
-  secret-is : getD ns 0 0 - 1 ≡ l
-  secret-is = omega (arith, first-is)
+  secret-is : secretLength ns ≡ l
+  secret-is = values-each l rows (h .some-rows) long
 
   judged-rows : (later : Outcome) → judgedRows 1 (laid rows) ns later ≡ later
-  unfolding judged
-  judged-rows later =
-      let ids = identifiers rows in
-      let ids-are : identifiers (cut ns (laid rows)) ≡ ids = ap identifiers (cut-laid rows) in
-      let sums : eqb (sum ns) (length (laid rows)) ≡ true = eq-eqb _ _ (sum-laid rows) in
-      let enough : ltb (length ns) 1 ≡ false = le-ltb (length ns) 1 (omega (arith, length-map rows length, h .some-rows)) in
-      let longer : ltb (l + 1) 2 ≡ false = le-ltb (l + 1) 2 (omega (arith, h .some-values)) in
-      let equal : allAre (l + 1) ns ≡ true = all-long l rows (k .each) in
-      let no-zero : within (placeOf 0 ids) ids ≡ false = not-within _ ids (place-fresh 0 ids (nonzero-ids l rows (k .each))) in
-      let no-twice : within (firstRepeated ids) ids ≡ false = not-within _ ids (repeated-distinct ids (k .distinct)) in
-      let short : ltb maxSecret l ≡ false = le-ltb _ _ (h .values-most) in
-      rw (ids-are, secret-is, first-is, sums, enough, longer, equal, no-zero, no-twice, short)
+  judged-rows = laid-pass l rows (h .some-rows) long (nonzero-ids l rows (k .each)) (k .distinct) (h .some-values) (h .values-most) 1 (h .some-rows)
 
   abbrev bytes : List ℕ
   bytes = lengthBytes ns

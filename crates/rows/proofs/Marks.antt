@@ -10,7 +10,7 @@ use lib.ListN.{length, getD, set, replicate, length-set, length-replicate, getD-
 use lib.Seq.{getD-set-same, getD-set-other}
 use borrow.Author.Tests.{eqb-true, eqb-false}
 use Rattle.shamir.specs.Lists.{Fresh}
-use Rattle.shamir.proofs.Lists.{all-append}
+use Rattle.shamir.proofs.Lists.{all-append, all-parts}
 
 pub record Seen (seen ids : List ℕ) : Type 0 where
   pub long : length seen ≡ 256
@@ -28,8 +28,7 @@ same-or-not y x {P} f g = pick (eqb y x) (eqb-true y x) (eqb-false y x)
     pick false t e = g (e refl)
 
 pub fresh-last : (x y : ℕ) (xs : List ℕ) → Fresh y (xs ++ (x ∷ [])) → Fresh y xs × (x ≡ y → ⊥)
-fresh-last x y [] f = (tt, f .0)
-fresh-last x y (a ∷ xs) f = let r = fresh-last x y xs (f .1) in ((f .0, r .0), r .1)
+fresh-last x y xs f = let r = all-parts (λ a. a ≡ y → ⊥) xs (x ∷ []) f in (r .0, r .1 .0)
 
 module _ {seen ids : List ℕ} (s : Seen seen ids) (x : ℕ) (h : x < 256) where
   same-mark : getD (set seen x 1) x 0 ≡ 1

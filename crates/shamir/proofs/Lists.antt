@@ -21,6 +21,10 @@ module _ {A : Type 0} (P : A → Type 0) where
   all-append [] ys h k = k
   all-append (x ∷ xs) ys h k = (h .0, all-append xs ys (h .1) k)
 
+  pub all-parts : (xs ys : List A) → All P (xs ++ ys) → All P xs × All P ys
+  all-parts [] ys h = (tt, h)
+  all-parts (x ∷ xs) ys h = let r = all-parts xs ys (h .1) in ((h .0, r .0), r .1)
+
   pub all-at : (d : A) → P d → (xs : List A) (i : ℕ) → All P xs → P (getD xs i d)
   all-at d hd [] i h = hd
   all-at d hd (x ∷ xs) zero h = h .0

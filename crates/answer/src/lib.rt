@@ -1,4 +1,6 @@
 // What the functions of this library answer: done with a count, or refused for a reason of document 01's table, or of 02's after it.
+#![tactic(auto)]
+
 ghost use Rattle.std.specs.Prelude.{◌≡◌};
 ghost use Rattle.answer.specs.Outcome.{number_of, first_of, second_of};
 ghost use Rattle.answer.specs.Answers.{reason_of};

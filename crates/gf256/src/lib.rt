@@ -1,4 +1,6 @@
 // The byte field of FIPS 197 and the identifiers of rows, as methods on values.
+#![tactic(auto)]
+
 ghost use Rattle.std.specs.Prelude.{◌≡◌, ◌*◌};
 ghost use Rattle.std.specs.Int.Bits.{bit_xor};
 ghost use Rattle.util.specs.Small.{bounded_add};

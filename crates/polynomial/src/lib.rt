@@ -1,6 +1,8 @@
 // A row's values: for each byte of a secret its polynomial, evaluated at the row's identifier.
 // The work runs along neighbouring bytes with one public factor, which the compiler does many bytes at a time. No branch and no
 // index depends on a byte of the secret or on a coefficient; in the product they are the first operand.
+#![tactic(auto)]
+
 ghost use Rattle.std.specs.Prelude.{◌≡◌, ◌-◌, ◌*◌, ◌<◌, ◌≤◌, length};
 ghost use Rattle.shamir.specs.Rows.{row};
 ghost use Rattle.gf256.specs.Field256.{gf256};

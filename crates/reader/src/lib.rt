@@ -1,4 +1,6 @@
 // The reader of sheets: document 02, §2.
+#![tactic(auto)]
+
 mod decode;
 mod judge;
 mod lines;

@@ -15,6 +15,8 @@
 // OUTPUT and HEAD are the whole of it in digits, where it has at most 64 bytes, and `sum CHECKSUM` where it has more.
 // Where more than one field is at fault the first from the left decides, but for T and N, which are read last. A text that is too long
 // as a whole is not run: `input too large`.
+#![tactic(auto)]
+
 ghost use Rattle.std.specs.Prelude.{◌≡◌, length};
 
 mod calls;

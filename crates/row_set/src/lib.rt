@@ -1,5 +1,7 @@
 // The limits, and the checks that every use of a set of rows begins with: done with the length of a row's values, or the first
 // refusal up to 10.
+#![tactic(auto)]
+
 ghost use Rattle.std.specs.Prelude.{◌≡◌, suc, ◌*◌, ◌-◌, ◌<◌, length};
 ghost use Rattle.answer.specs.Outcome.{done};
 ghost use Rattle.answer.specs.Answers.{answer_of};

@@ -1,4 +1,6 @@
 // Checks of rows that lie one after another in flat storage, and the secret that they share.
+#![tactic(auto)]
+
 ghost use Rattle.std.specs.Prelude.{◌≡◌, true, cond, ◌+◌, ◌*◌, ◌<◌, ◌≤◌, eqb, length, get_or, drop, replicate};
 ghost use mathlib.Core.List.{foldr, map, zip_with};
 ghost use Rattle.std.specs.Int.Bits.{bit_xor};

@@ -1,4 +1,6 @@
 // Runs document 01's sampler values, which are run and not proved, with the corner cases of the zero tests and of the bounded sum.
+#![tactic(auto)]
+
 use libc::STDOUT_FILENO;
 
 fn line(label: &[u8], value: u8) {

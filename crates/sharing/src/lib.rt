@@ -1,4 +1,6 @@
 // Shamir's sharing of byte strings: split and combine, with the rules of document 01.
+#![tactic(auto)]
+
 mod combine;
 mod split;
 

@@ -1,6 +1,8 @@
 // Reads a sheet from standard input and prints its row lines as they stand, or the number of the refusal alone on a line, or, where the
 // text has more than 48 KiB, the line `too large`. Where the input cannot be read any further, it
 // ends there.
+#![tactic(auto)]
+
 ghost use Rattle.std.specs.Prelude.{◌≡◌, ◌≤◌, length, drop};
 ghost use Rattle.reading.specs.Unsheet.{after_line};
 ghost use Rattle.sheet_rows.specs.Shown.{ShowsRight};

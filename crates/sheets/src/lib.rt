@@ -1,4 +1,6 @@
 // Sets of rows as text: the sheets of document 02, §1.
+#![tactic(auto)]
+
 mod length;
 mod put;
 mod write;

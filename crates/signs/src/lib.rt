@@ -1,4 +1,6 @@
 // Two's complement without a branch: bits read as a signed number, a signed number's bits, zero minus a number.
+#![tactic(auto)]
+
 ghost use Rattle.std.specs.Prelude.{◌≡◌};
 ghost use Rattle.std.specs.Int.{w8, w16};
 ghost use Rattle.std.proofs.Common.{to_z, of_z};

@@ -1,4 +1,6 @@
 // Bytes that lie a stride apart: the coefficients of one degree, the identifiers of rows.
+#![tactic(auto)]
+
 ghost use Rattle.std.specs.Prelude.{◌≡◌, ◌*◌, ◌<◌, ◌≤◌, length};
 ghost use Rattle.strides.specs.Strides.{strided};
 

@@ -1,4 +1,6 @@
 // Document 01's modules 1 and 2: the zero tests, which stand in a crate below, the bounded sum and the sampler.
+#![tactic(auto)]
+
 ghost use Rattle.std.specs.Prelude.{◌≡◌};
 ghost use Rattle.util.specs.Small.{bounded_add, uniform_nonzero};
 

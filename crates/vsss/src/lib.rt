@@ -1,4 +1,6 @@
 // The entries for C and Rust: numbers and byte slices in, one 64-bit word back.
+#![tactic(auto)]
+
 ghost use Rattle.std.specs.Prelude.{◌≡◌, ◌<◌, ◌^◌, length};
 ghost use Rattle.answer.specs.Outcome.{word_of};
 ghost use Rattle.answer.specs.Answers.{answer_of};

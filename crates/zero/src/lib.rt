@@ -1,4 +1,6 @@
 // Document 01's module 1: the zero tests.
+#![tactic(auto)]
+
 ghost use Rattle.std.specs.Prelude.{◌≡◌};
 ghost use Rattle.zero.specs.Zero.{is_zero, int_is_zero, is_zero_bytes, is_not_zero, int_is_not_zero, is_not_zero_bytes};
 ghost use Rattle.zero.specs.Mask.{nonzero_mask};

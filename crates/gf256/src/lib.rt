@@ -64,7 +64,7 @@ pub fn gf256_inverse(a: u8) -> u8
 }
 
 // An element of the field.
-#[derive(Drop)]
+#[derive(Clone, Copy)]
 pub struct Gf256(pub u8);
 
 // An element, or why there is none.
@@ -156,7 +156,7 @@ impl Gf256 {
 }
 
 // The identifier of a row: an element that is counted up as a number.
-#[derive(Drop)]
+#[derive(Clone, Copy)]
 pub struct IdentifierGf256(pub Gf256);
 
 // An identifier, or why there is none.

@@ -1,22 +1,13 @@
 -- `xtime` meets its contract, as computed for every byte.
--- Assumes nothing.
 use Prim.Native.Nat.{◌*◌, ◌/◌, ◌%◌}
 use native.Mathlib.Omega.{arith}
-use borrow.Author.Rules.{rules}
 use lib.Bits.{bit_xor}
 use Rattle.poly2.specs.Poly2.{reduce, clmul}
 use Rattle.algebra.proofs.Below.{below-≡}
 use Rattle.gf256.specs.Field256.{modulus}
-use Rattle.gf256.proofs.xtime.Statement.{statement}
-use Rattle.gf256.proofs.xtime.Tie as tie
+use Rattle.gf256.proofs.xtime.Goals as goal
 
-mul-result : tie.Need-overflow-mul-result
-mul-result c = search rules
-
-returns : tie.Need-returns
+pub returns : goal.returns
 unfolding reduce clmul
 returns c =
     below-≡ (λ a. bit_xor (a * 2 % 256) (a / 128 * 0x1b)) (λ a. reduce 8 modulus (a * 2)) 256 tt c.args.a (omega arith)
-
-pub xtime-spec : {M : Type 1} → statement M
-xtime-spec = tie.close (tie.spec mul-result returns)

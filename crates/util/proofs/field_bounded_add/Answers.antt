@@ -4,41 +4,26 @@ use mathlib.Core.Bool.{Bool, true, false, ◌&&◌, cond}
 use Prim.Native.Nat.{ℕ, ◌+◌, ◌%◌, ◌<◌}
 use native.Mathlib.Nat.{mod-mod, mod-eq_of_lt}
 use native.Mathlib.Omega.{arith}
-use borrow.Author.Rules.{rules}
 use borrow.Author.Tests.{ltb-true, leb-true}
 use lib.Bits.{bit_and, and_mask, and_zero_r, mask_lt}
 use lib.Dec.{ltb, leb}
 use mir.Syntax.{w8}
 use mir.Val.{bool_byte}
 use Rattle.signs.specs.Wrap.{wrapped_neg}
-use Rattle.util.proofs.field_bounded_add.Statement.{statement}
-use Rattle.util.proofs.field_bounded_add.Tie as tie
+use Rattle.util.proofs.field_bounded_add.Goals as goal
 
 under : (s : ℕ) (p q : Bool) → (p ≡ true → q ≡ true → s < 256) → bit_and (bit_and s 255) (wrapped_neg w8 (bool_byte (p && q))) ≡ cond (p && q) s 0
 under s true true h = and_mask (bit_and s 255) 8 ∙ ap (◌% 256) (and_mask s 8) ∙ mod-mod s 256 ∙ mod-eq_of_lt (h refl refl)
 under s true false h = and_zero_r (bit_and s 255)
 under s false q h = and_zero_r (bit_and s 255)
 
-add-sum : tie.Need-overflow-add-sum
-add-sum c = search rules
+pub overflow_cast-result : goal.overflow_cast-result
+overflow_cast-result c = record { fits = mask_lt (c.args.a + c.args.b) 8 }
 
-cast-result : tie.Need-overflow-cast-result
-cast-result c = record { fits = mask_lt (c.args.a + c.args.b) 8 }
-
-cast-wrapping-neg-u8 : tie.Need-overflow-cast-wrapping-neg-u8
-cast-wrapping-neg-u8 c = search rules
-
-wrapping-neg-u8-requires : tie.Need-wrapping-neg-u8-requires
-wrapping-neg-u8-requires c κs = search rules
-
-returns : tie.Need-returns
+pub returns : goal.returns
 returns c =
-    let x = c.before.args in
+    let x = c.args in
     let s = x.a + x.b in
-    ap (bit_and (bit_and s 255)) c.wrapping-neg-u8.ensures
-    ∙ under s (ltb s x.field-size) (leb x.field-size 256)
-    (λ p q. omega (arith, ltb-true s x.field-size p, leb-true x.field-size 256 q))
-
-pub field-bounded-add-spec : {M : Type 1} → statement M
-field-bounded-add-spec =
-    tie.close (tie.spec add-sum cast-result cast-wrapping-neg-u8 wrapping-neg-u8-requires returns)
+    ap (bit_and (bit_and s 255)) c.wrapping_neg_u8.ensures
+    ∙ under s (ltb s x.field_size) (leb x.field_size 256)
+    (λ p q. omega (arith, ltb-true s x.field_size p, leb-true x.field_size 256 q))

@@ -1,5 +1,4 @@
 -- `first_repeated` meets its contract: what stands at the second place is sought from the front.
--- Assumes nothing.
 use mathlib.Core.Path.{◌≡◌, refl, sym, ap, ◌∙◌}
 use mathlib.Core.List.{List}
 use Prim.Native.Nat.{ℕ, ◌+◌, ◌*◌, ◌<◌}
@@ -10,8 +9,7 @@ use Rattle.strides.specs.Strides.{strided}
 use Rattle.strides.proofs.Strides.{within-storage, length-strided}
 use Rattle.rows.proofs.Storage.{strided-first}
 use Rattle.rows.proofs.Repeats.{first_is}
-use Rattle.rows.proofs.first_repeated.Statement.{statement}
-use Rattle.rows.proofs.first_repeated.Tie as tie
+use Rattle.rows.proofs.first_repeated.Goals as goal
 
 first : (s : List ℕ) (w m i j : ℕ) → j < m → j ≡ first_repeating (strided w 0 m s) → i ≡ 0 + place_of (get_or s (j * w) 0) (strided w 0 m s)
     → i ≡ first_repeated (strided w 0 m s)
@@ -23,27 +21,23 @@ first s w m i j h e f =
     ∙ ap (λ n. place_of (get_or ids n 0) ids) e
     ∙ sym (first_is ids (omega (arith, length-strided w 0 m s)))
 
-mul_at : tie.Need-overflow-mul-at
-mul_at c =
-    let s = c.before in
+pub overflow_mul-at : goal.overflow_mul-at
+overflow_mul-at c =
+    let s = c in
     let a = s.args in
     record { fits = omega (arith, within-storage a.j a.m a.w (length a.rows.now) s.requires.0 s.requires.1) }
 
-shared-slice-read-find : tie.Need-shared-slice-read-find
-shared-slice-read-find c =
-    let s = c.before.before in
+pub bounds-rows-at : goal.bounds-rows-at
+bounds-rows-at c =
+    let s = c in
     let a = s.args in
     omega (arith, within-storage a.j a.m a.w (length a.rows.now) s.requires.0 s.requires.1, s.requires.2)
 
-find-requires : tie.Need-find-requires
-find-requires c κs = let s = c.before.before in (omega arith, s.requires.1, s.requires.2)
+pub find-requires : goal.find-requires
+find-requires c = let s = c in (omega arith, s.requires.1, s.requires.2)
 
-returns : tie.Need-returns
+pub returns : goal.returns
 returns c =
-    let s = c.before.before.before in
+    let s = c in
     let a = s.args in
     first a.rows.now a.w a.m _ a.j s.requires.0 s.requires.3 c.find.ensures
-
-pub first-repeated-spec : {M : Type 1} → statement M
-first-repeated-spec =
-    tie.close (tie.spec mul_at shared-slice-read-find find-requires returns)

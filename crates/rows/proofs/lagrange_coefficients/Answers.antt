@@ -1,0 +1,26 @@
+-- `lagrange_coefficients` meets its contract: what its loops compute is Lagrange's coefficient of each identifier.
+use mathlib.Core.Path.{ap, ◌∙◌, subst}
+use mathlib.Core.List.{List}
+use Prim.Native.Nat.{ℕ, ◌<◌}
+use lib.ListN.{length, get_or}
+use Rattle.shamir.specs.Lists.{Below}
+use Rattle.strides.specs.Strides.{strided}
+use Rattle.rows.proofs.Storage.{strided-one, strided-lt}
+use Rattle.rows.proofs.Coefficients.{coefficients_are}
+use Rattle.rows.proofs.lagrange_coefficients.Goals as goal
+
+below_of : (n : ℕ) (xs : List ℕ) → ((i : ℕ) → get_or xs i 0 < n) → Below n xs
+below_of n xs h = subst (Below n) (strided-one xs) (strided-lt n 1 0 (length xs) xs h)
+
+pub returns : goal.returns
+returns c =
+    let divided = c in
+    let multiplied = divided in
+    let differed = multiplied in
+    let gathered = differed in
+    let known = gathered in
+    let s = known in
+    let ids = s.args.ids.now in
+    let e = gathered.gather.ensures ∙ ap (λ n. strided 1 0 n ids) s.requires.0 ∙ strided-one ids in
+    coefficients_are ids _ _ _ _ (below_of 256 ids (λ i. (known.type_inv.ids i).fits)) s.requires.1 s.requires.2 e
+    differed.denominators.ensures multiplied.product-p.ensures divided.divide_into.ensures

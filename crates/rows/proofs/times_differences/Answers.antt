@@ -1,0 +1,49 @@
+-- `times_differences` meets its contract: the places before k are multiplied, the others hold what they held.
+use mathlib.Core.Path.{◌≡◌, refl, sym, ap, ◌∙◌}
+use mathlib.Core.Bool.{cond}
+use mathlib.Core.Logic.{⊎_elim}
+use Prim.Native.Nat.{ℕ, ◌-◌, ◌<◌}
+use native.Mathlib.Omega.{arith}
+use lib.Bits.{bit_xor}
+use lib.Dec.{eqb}
+use lib.ListN.{get_or, length-set}
+use borrow.Author.Tests.{eq-eqb, ne_eqb}
+use Rattle.gf256.specs.Field256.{mul256}
+use Rattle.gf256.proofs.Field256.{ring256}
+use Rattle.strides.proofs.InPlace.{none, next, all-zip}
+use Rattle.rows.proofs.times_differences.Goals as goal
+
+-- the product by the factor, whichever it is
+hit : (a x d f r : ℕ) → d < 256 → a ≡ x → f ≡ 1 → r ≡ mul256 d f → r ≡ cond (eqb a x) d (mul256 d (bit_xor x a))
+hit a x d f r h e q p = p ∙ ap (mul256 d) q ∙ ring256.mul-one d h ∙ sym (ap (λ b. cond b d (mul256 d (bit_xor x a))) (eq-eqb a x e))
+
+miss : (a x d f r : ℕ) → (a ≡ x → ⊥) → f ≡ bit_xor x a → r ≡ mul256 d f → r ≡ cond (eqb a x) d (mul256 d (bit_xor x a))
+miss a x d f r e q p = p ∙ ap (mul256 d) q ∙ sym (ap (λ b. cond b d (mul256 d (bit_xor x a))) (ne_eqb a x e))
+
+pub loop-k-init : goal.loop-k-init
+loop-k-init c = none
+
+pub gf256_mul-requires : goal.gf256_mul-requires
+gf256_mul-requires c = tt
+
+pub loop-k-smaller : goal.loop-k-smaller
+loop-k-smaller c = simp length-set (omega arith)
+
+pub loop-k-preserved : goal.loop-k-preserved
+loop-k-preserved c =
+    let l = c.loop-k in
+    let a = c.args in
+    let x = get_or a.xs.now l.k 0 in
+    let d = get_or l.ds l.k 0 in
+    let f = c.if-a-x.f in
+    let p = c.gf256_mul.ensures in
+    next l.k _ l.invariant (omega arith)
+    (⊎_elim (λ w. hit a.a x d f _ (c.type_inv.ds l.k).fits w.0.taken w.1 p) (λ w. miss a.a x d f _ w.0.left w.1 p) c.if-a-x.branch)
+
+pub shape_of-ds : goal.shape_of-ds
+shape_of-ds c = c.loop-k.invariant.long
+
+pub returns : goal.returns
+returns c =
+    let l = c.loop-k in
+    all-zip l.k l.invariant (omega arith) _ c.args.xs.now c.requires (λ k d. refl)

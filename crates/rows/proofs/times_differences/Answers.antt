@@ -12,6 +12,7 @@ use Rattle.gf256.specs.Field256.{mul256}
 use Rattle.gf256.proofs.Field256.{ring256}
 use Rattle.strides.proofs.InPlace.{none, next, all-zip}
 use Rattle.rows.proofs.times_differences.Goals as goal
+use Rattle.rows.proofs.times_differences.Goals.{then-a-x, else-a-x}
 
 -- the product by the factor, whichever it is
 hit : (a x d f r : ℕ) → d < 256 → a ≡ x → f ≡ 1 → r ≡ mul256 d f → r ≡ cond (eqb a x) d (mul256 d (bit_xor x a))
@@ -37,8 +38,9 @@ loop-k-preserved c =
     let d = get_or l.ds l.k 0 in
     let f = c.if-a-x.f in
     let p = c.gf256_mul.ensures in
+    let h : d < 256 = omega arith in
     next l.k _ l.invariant (omega arith)
-    (⊎_elim (λ w. hit a.a x d f _ (c.type_inv.ds l.k).fits w.0.taken w.1 p) (λ w. miss a.a x d f _ w.0.left w.1 p) c.if-a-x.branch)
+    (elim c.if-a-x.branch [ then-a-x w ↦ hit a.a x d f _ h w.if-a-x.true w.f-is p | else-a-x w ↦ miss a.a x d f _ w.if-a-x.false w.f-is p ])
 
 pub shape_of-ds : goal.shape_of-ds
 shape_of-ds c = c.loop-k.invariant.long

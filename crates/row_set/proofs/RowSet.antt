@@ -1,13 +1,13 @@
 -- The checks of a set of rows: each return of the code from the tests that lead to it, and what accepted rows are like.
 -- Assumes nothing.
 use mathlib.Core.Path.{◌≡◌, refl, sym, ap, ap₂, ◌∙◌, subst}
-use mathlib.Core.Bool.{Bool, true, false, not, ◌||◌}
+use mathlib.Core.Bool.{Bool, true, false, ◌||◌}
 use mathlib.Core.List.{List}
 use Prim.Native.Nat.{ℕ, ◌+◌, ◌*◌, ◌-◌, ◌/◌, ◌%◌, ◌<◌, ◌≤◌}
 use native.Mathlib.Omega.{arith}
 use lib.Dec.{eqb, ltb}
 use lib.ListN.{length, replicate}
-use borrow.Author.Tests.{eq-eqb, ne_eqb, eqb-true, lt-ltb, le-ltb, ltb-false, not-true, not-false}
+use borrow.Author.Tests.{eq-eqb, ne_eqb, eqb-true, lt-ltb, le-ltb, ltb-false}
 use Rattle.answer.specs.Outcome.{Outcome, done, refused, refuse}
 use Rattle.rows.specs.Search.{sum, all_are, first_zero, first_repeated, first_repeating, within}
 use Rattle.strides.specs.Strides.{strided}
@@ -23,11 +23,11 @@ use Rattle.row_set.specs.RowSet.{first_length, secret_length, judged_identifiers
 use Rattle.row_set.proofs.Chains.{Chain, end, then, passed}
 
 -- a test of what a call answers, turned round in the code
-pub yes : {r t : Bool} → r ≡ t → not r ≡ false → t ≡ true
-yes {r} e h = sym e ∙ not-false r h
+pub yes : {r t : Bool} → r ≡ t → r ≡ true → t ≡ true
+yes e h = sym e ∙ h
 
-pub no : {r t : Bool} → r ≡ t → not r ≡ true → t ≡ false
-no {r} e h = sym e ∙ not-true r h
+pub no : {r t : Bool} → r ≡ t → r ≡ false → t ≡ false
+no e h = sym e ∙ h
 
 -- ---- what the lengths decide
 

@@ -1,14 +1,9 @@
 -- `length_bytes` meets its contract: a repeat is as long as it says, which the law tells without counting.
--- Assumes nothing.
 use mathlib.Core.Path.{sym}
 use Prim.Native.Nat.{ℕ}
 use lib.ListN.{length-replicate}
 use Rattle.replay.specs.Rooms.{lengths}
-use Rattle.replay.proofs.calls.length_bytes.Statement.{statement}
-use Rattle.replay.proofs.calls.length_bytes.Tie as tie
+use Rattle.replay.proofs.calls.length_bytes.Goals as goal
 
-returns : tie.Need-returns
+pub returns : goal.returns
 returns c = sym (length-replicate {0} {A = ℕ} lengths 0)
-
-pub length-bytes-spec : {M : Type 1} → statement M
-length-bytes-spec = tie.close (tie.spec returns)

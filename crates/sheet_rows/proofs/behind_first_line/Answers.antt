@@ -1,6 +1,5 @@
 -- `behind_first_line` meets its contract: no line feed stands before the place.
 use mathlib.Core.Path.{refl, sym, ap, ◌∙◌}
-use Prim.Native.Nat.{◌-◌}
 use native.Mathlib.Omega.{arith}
 use lib.ListN.{drop_of_length-le}
 use Rattle.reading.specs.Unsheet.{after_line}

@@ -14,8 +14,8 @@ pub returns-in-Refused : goal.returns-in-Refused
 returns-in-Refused c =
     let text = c.args.text.now in
     let answer =
-        ap₂ (read_answer text) c.head_bytes-head.ensures c.row_bytes-rows.ensures
-        ∙ sym c.read_sheet-answer.ensures.answers
-        ∙ told-refused c.in-Refused.is in
+    ap₂ (read_answer text) c.head_bytes-head.ensures c.row_bytes-rows.ensures
+    ∙ sym c.read_sheet-answer.ensures.answers
+    ∙ told-refused c.in-Refused.is in
     let r = shows_number text 49152 _ _ _ c.requires answer in
     (c.number.ensures ∙ r.0, r.1)

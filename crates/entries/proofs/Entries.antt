@@ -34,8 +34,8 @@ counts (done count) f h = refl
 counts (refused number first second) f h = absurd (omega (arith, f.0.0))
 
 -- lengths that are written as bytes, and are not too many, can be read
-pub few-readable : (ns : List ℕ) → length ns ≤ max_rows → unreadable (length_bytes ns) ≡ false
-few-readable ns h =
+pub few_readable : (ns : List ℕ) → length ns ≤ max_rows → unreadable (length_bytes ns) ≡ false
+few_readable ns h =
     let bytes = length_bytes ns in
     let fours = length-length_bytes ns in
     ap (λ t. not t || ltb max_rows (length bytes / 4)) (eq-eqb (length bytes % 4) 0 (omega (arith, fours)))
@@ -81,11 +81,11 @@ module _ (t n : ℕ) (secret ids coefficients out : List ℕ) where
 module _ (s ns : List ℕ) (few : length ns ≤ max_rows) where
   same_answer : (room : ℕ) → byte_lengths_answer s (length_bytes ns) room ≡ combine_answer s ns room
   unfolding byte_lengths_answer
-  same_answer room = ap₂ (λ b x. refuse b (refused 13 0 0) (combine_answer s x room)) (few-readable ns few) (lengths_of_lem ns)
+  same_answer room = ap₂ (λ b x. refuse b (refused 13 0 0) (combine_answer s x room)) (few_readable ns few) (lengths_of_lem ns)
 
   same_bytes : (out : List ℕ) → byte_lengths_bytes s (length_bytes ns) out ≡ combine_bytes s ns out
   unfolding byte_lengths_bytes
-  same_bytes out = ap₂ (λ b x. cond b out (combine_bytes s x out)) (few-readable ns few) (lengths_of_lem ns)
+  same_bytes out = ap₂ (λ b x. cond b out (combine_bytes s x out)) (few_readable ns few) (lengths_of_lem ns)
 
 -- ---- refused
 

@@ -6,7 +6,7 @@ ghost use Rattle.answer.specs.Outcome.{number_of, first_of, second_of};
 ghost use Rattle.answer.specs.Answers.{reason_of};
 
 // The reasons in the table's order, numbers 1 to 14, with the places inside.
-#[derive(Drop)]
+#[derive(Clone, Copy)]
 pub enum Reason {
     InvalidSizeRequest,
     InvalidSecret,
@@ -27,7 +27,7 @@ pub enum Reason {
     InvalidSheet(usize),
 }
 
-#[derive(Drop)]
+#[derive(Clone, Copy)]
 pub enum Answer {
     Done(usize),
     Refused(Reason),

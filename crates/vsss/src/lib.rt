@@ -1,4 +1,4 @@
-// The entries for C and Rust: numbers and byte slices in, one 64-bit word back.
+// The entries: numbers and byte slices in, one 64-bit word back. `vsss_c` exports them for C and Rust.
 #![tactic(auto)]
 
 ghost use Rattle.std.specs.Prelude.{◌≡◌, ◌<◌, ◌^◌, length};
@@ -27,8 +27,7 @@ fn word(a: Answer) -> u64
     }
 }
 
-#[unsafe(no_mangle)]
-pub extern "C" fn vsss_split_bytes(
+pub fn vsss_split_bytes(
     threshold: usize,
     limit: usize,
     secret: &[u8],
@@ -51,8 +50,7 @@ pub extern "C" fn vsss_split_bytes(
     ))
 }
 
-#[unsafe(no_mangle)]
-pub extern "C" fn vsss_combine_bytes(rows: &[u8], lengths: &[u8], out: &mut [u8]) -> u64
+pub fn vsss_combine_bytes(rows: &[u8], lengths: &[u8], out: &mut [u8]) -> u64
     ensures { Gives
         (byte_lengths_answer rows.now lengths.now (length out.old))
         (byte_lengths_bytes rows.now lengths.now out.old)
@@ -61,8 +59,7 @@ pub extern "C" fn vsss_combine_bytes(rows: &[u8], lengths: &[u8], out: &mut [u8]
     word(sharing::combine_bytes_by_byte_lengths(rows, lengths, out))
 }
 
-#[unsafe(no_mangle)]
-pub extern "C" fn vsss_write_sheet(
+pub fn vsss_write_sheet(
     threshold: usize,
     rows: &[u8],
     lengths: &[u8],
@@ -76,8 +73,7 @@ pub extern "C" fn vsss_write_sheet(
     word(sheets::write_sheet(threshold, rows, lengths, out))
 }
 
-#[unsafe(no_mangle)]
-pub extern "C" fn vsss_read_sheet(text: &[u8], head: &mut [u8], out: &mut [u8]) -> u64
+pub fn vsss_read_sheet(text: &[u8], head: &mut [u8], out: &mut [u8]) -> u64
     ensures gives { Gives
         (read_answer text.now (length head.old) (length out.old))
         (read_rows text.now head.old out.old)

@@ -1,7 +1,7 @@
 -- The bytes are a field: the powers of 3 hold every byte but 0.
 -- Assumes nothing.
 use mathlib.Core.Path.{◌≡◌, refl, sym, ◌∙◌}
-use Prim.Native.Nat.{ℕ, ◌<◌}
+use Prim.Native.Nat.{ℕ}
 use native.Mathlib.Omega.{arith}
 use lib.Dec.{lit<}
 use Rattle.poly2.specs.Poly2.{mul_mod, rem, reduce, clmul}

@@ -1,6 +1,6 @@
 -- The reader of sheets: document 02, §2. It accepts exactly the texts that the writer of §1 can produce.
 -- Assumes nothing.
-use Rattle.std.specs.Prelude.{◌≡◌, cond, List, [], ◌∷◌, ◌++◌, ℕ, zero, suc, ◌+◌, ◌<◌, ◌≤◌, eqb}
+use Rattle.std.specs.Prelude.{◌≡◌, cond, List, [], ◌∷◌, ◌++◌, ℕ, zero, suc, ◌<◌, ◌≤◌, eqb}
 use Rattle.answer.specs.Outcome.{done}
 use Rattle.shamir.specs.Lists.{Below}
 use Rattle.sheets.specs.Text.{line_feed}

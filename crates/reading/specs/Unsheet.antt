@@ -1,6 +1,6 @@
 -- What the reader finds in a text, line by line: document 02, §2. A line is right where what it is read as, written again, is that line.
 -- Assumes nothing.
-use Rattle.std.specs.Prelude.{◌≡◌, Bool, true, false, cond, not, ◌&&◌, ◌||◌, List, [], ◌∷◌, ◌++◌, map, ◌⊎◌, ℕ, zero, suc, ◌+◌, ◌-◌, eqb, ltb, length, get_or}
+use Rattle.std.specs.Prelude.{◌≡◌, Bool, true, false, cond, not, ◌&&◌, ◌||◌, List, [], ◌∷◌, ◌++◌, map, ◌⊎◌, ℕ, zero, suc, ◌+◌, eqb, ltb, length, get_or}
 use Rattle.rows.specs.Search.{place_of, within}
 use Rattle.rows.specs.Storage.{cut, laid, identifiers}
 use Rattle.rows.specs.Lengths.{lengths_of}

@@ -7,6 +7,7 @@ ghost use Rattle.replay.specs.Rooms.{values, output, ids, rows, lengths};
 use crate::parse::{Filled, Number};
 use crate::{parse, print};
 use row_set::MAX_SECRET;
+use std::io;
 
 #[derive(Drop)]
 enum Bounds {
@@ -86,151 +87,175 @@ fn bounds_of(line: &[u8]) -> Bounds {
     Bounds::Are(threshold, limit)
 }
 
-fn split(line: &[u8], secret: &[u8], ids: &[u8], coefficients: &[u8], out: &mut [u8]) -> Filled {
+fn split(
+    rt: &impl Print,
+    line: &[u8],
+    secret: &[u8],
+    ids: &[u8],
+    coefficients: &[u8],
+    out: &mut [u8],
+) -> io::Result<Filled> {
     let Bounds::Are(threshold, limit) = bounds_of(line) else {
-        return Filled::Unreadable;
+        return Ok(Filled::Unreadable);
     };
     let word = vsss::vsss_split_bytes(threshold, limit, secret, ids, coefficients, out);
-    print::answer(word, out);
-    Filled::Bytes(out.len())
+    print::answer(rt, word, out)?;
+    Ok(Filled::Bytes(out.len()))
 }
 
-fn split_room(line: &[u8], secret: &[u8], ids: &[u8], coefficients: &[u8]) -> Filled {
+fn split_room(
+    rt: &impl Print,
+    line: &[u8],
+    secret: &[u8],
+    ids: &[u8],
+    coefficients: &[u8],
+) -> io::Result<Filled> {
     let mut out = output_bytes();
     let filled = room(line, 6, &out);
     let Filled::Bytes(n) = filled else {
-        return filled;
+        return Ok(filled);
     };
-    split(line, secret, ids, coefficients, &mut out[..n])
+    split(rt, line, secret, ids, coefficients, &mut out[..n])
 }
 
-fn split_coefficients(line: &[u8], secret: &[u8], ids: &[u8]) -> Filled {
+fn split_coefficients(
+    rt: &impl Print,
+    line: &[u8],
+    secret: &[u8],
+    ids: &[u8],
+) -> io::Result<Filled> {
     let mut coefficients = value_bytes();
     let filled = parse::bytes_at(line, 5, &mut coefficients);
     let Filled::Bytes(n) = filled else {
-        return filled;
+        return Ok(filled);
     };
-    split_room(line, secret, ids, &coefficients[..n])
+    split_room(rt, line, secret, ids, &coefficients[..n])
 }
 
-fn split_ids(line: &[u8], secret: &[u8]) -> Filled {
+fn split_ids(rt: &impl Print, line: &[u8], secret: &[u8]) -> io::Result<Filled> {
     let mut ids = id_bytes();
     let filled = parse::bytes_at(line, 4, &mut ids);
     let Filled::Bytes(n) = filled else {
-        return filled;
+        return Ok(filled);
     };
-    split_coefficients(line, secret, &ids[..n])
+    split_coefficients(rt, line, secret, &ids[..n])
 }
 
-fn split_secret(line: &[u8]) -> Filled {
+fn split_secret(rt: &impl Print, line: &[u8]) -> io::Result<Filled> {
     let mut secret = value_bytes();
     let filled = parse::bytes_at(line, 3, &mut secret);
     let Filled::Bytes(n) = filled else {
-        return filled;
+        return Ok(filled);
     };
-    split_ids(line, &secret[..n])
+    split_ids(rt, line, &secret[..n])
 }
 
-fn combine(rows: &[u8], lengths: &[u8], out: &mut [u8]) -> Filled {
+fn combine(rt: &impl Print, rows: &[u8], lengths: &[u8], out: &mut [u8]) -> io::Result<Filled> {
     let word = vsss::vsss_combine_bytes(rows, lengths, out);
-    print::answer(word, out);
-    Filled::Bytes(out.len())
+    print::answer(rt, word, out)?;
+    Ok(Filled::Bytes(out.len()))
 }
 
-fn combine_room(line: &[u8], rows: &[u8], lengths: &[u8]) -> Filled {
+fn combine_room(rt: &impl Print, line: &[u8], rows: &[u8], lengths: &[u8]) -> io::Result<Filled> {
     let mut out = output_bytes();
     let filled = room(line, 3, &out);
     let Filled::Bytes(n) = filled else {
-        return filled;
+        return Ok(filled);
     };
-    combine(rows, lengths, &mut out[..n])
+    combine(rt, rows, lengths, &mut out[..n])
 }
 
-fn combine_lengths(line: &[u8], rows: &[u8]) -> Filled {
+fn combine_lengths(rt: &impl Print, line: &[u8], rows: &[u8]) -> io::Result<Filled> {
     let mut lengths = length_bytes();
     let filled = parse::bytes_at(line, 2, &mut lengths);
     let Filled::Bytes(n) = filled else {
-        return filled;
+        return Ok(filled);
     };
-    combine_room(line, rows, &lengths[..n])
+    combine_room(rt, line, rows, &lengths[..n])
 }
 
-fn combine_rows(line: &[u8]) -> Filled {
+fn combine_rows(rt: &impl Print, line: &[u8]) -> io::Result<Filled> {
     let mut rows = row_bytes();
     let filled = parse::bytes_at(line, 1, &mut rows);
     let Filled::Bytes(n) = filled else {
-        return filled;
+        return Ok(filled);
     };
-    combine_lengths(line, &rows[..n])
+    combine_lengths(rt, line, &rows[..n])
 }
 
-fn sheet(line: &[u8], rows: &[u8], lengths: &[u8], out: &mut [u8]) -> Filled {
+fn sheet(
+    rt: &impl Print,
+    line: &[u8],
+    rows: &[u8],
+    lengths: &[u8],
+    out: &mut [u8],
+) -> io::Result<Filled> {
     let Number::Is(threshold) = parse::number_at(line, 1) else {
-        return Filled::Unreadable;
+        return Ok(Filled::Unreadable);
     };
     let word = vsss::vsss_write_sheet(threshold, rows, lengths, out);
-    print::answer(word, out);
-    Filled::Bytes(out.len())
+    print::answer(rt, word, out)?;
+    Ok(Filled::Bytes(out.len()))
 }
 
-fn sheet_room(line: &[u8], rows: &[u8], lengths: &[u8]) -> Filled {
+fn sheet_room(rt: &impl Print, line: &[u8], rows: &[u8], lengths: &[u8]) -> io::Result<Filled> {
     let mut out = output_bytes();
     let filled = room(line, 4, &out);
     let Filled::Bytes(n) = filled else {
-        return filled;
+        return Ok(filled);
     };
-    sheet(line, rows, lengths, &mut out[..n])
+    sheet(rt, line, rows, lengths, &mut out[..n])
 }
 
-fn sheet_lengths(line: &[u8], rows: &[u8]) -> Filled {
+fn sheet_lengths(rt: &impl Print, line: &[u8], rows: &[u8]) -> io::Result<Filled> {
     let mut lengths = length_bytes();
     let filled = parse::bytes_at(line, 3, &mut lengths);
     let Filled::Bytes(n) = filled else {
-        return filled;
+        return Ok(filled);
     };
-    sheet_room(line, rows, &lengths[..n])
+    sheet_room(rt, line, rows, &lengths[..n])
 }
 
-fn sheet_rows(line: &[u8]) -> Filled {
+fn sheet_rows(rt: &impl Print, line: &[u8]) -> io::Result<Filled> {
     let mut rows = row_bytes();
     let filled = parse::bytes_at(line, 2, &mut rows);
     let Filled::Bytes(n) = filled else {
-        return filled;
+        return Ok(filled);
     };
-    sheet_lengths(line, &rows[..n])
+    sheet_lengths(rt, line, &rows[..n])
 }
 
-fn read(text: &[u8], head: &mut [u8], out: &mut [u8]) -> Filled {
+fn read(rt: &impl Print, text: &[u8], head: &mut [u8], out: &mut [u8]) -> io::Result<Filled> {
     let word = vsss::vsss_read_sheet(text, head, out);
-    print::answer_with_head(word, head, out);
-    Filled::Bytes(out.len())
+    print::answer_with_head(rt, word, head, out)?;
+    Ok(Filled::Bytes(out.len()))
 }
 
-fn read_room(line: &[u8], text: &[u8], head: &mut [u8]) -> Filled {
+fn read_room(rt: &impl Print, line: &[u8], text: &[u8], head: &mut [u8]) -> io::Result<Filled> {
     let mut out = output_bytes();
     let filled = room(line, 3, &out);
     let Filled::Bytes(n) = filled else {
-        return filled;
+        return Ok(filled);
     };
-    read(text, head, &mut out[..n])
+    read(rt, text, head, &mut out[..n])
 }
 
-fn read_head(line: &[u8], text: &[u8]) -> Filled {
+fn read_head(rt: &impl Print, line: &[u8], text: &[u8]) -> io::Result<Filled> {
     let mut head = output_bytes();
     let filled = room(line, 2, &head);
     let Filled::Bytes(n) = filled else {
-        return filled;
+        return Ok(filled);
     };
-    read_room(line, text, &mut head[..n])
+    read_room(rt, line, text, &mut head[..n])
 }
 
-fn read_text(line: &[u8]) -> Filled {
+fn read_text(rt: &impl Print, line: &[u8]) -> io::Result<Filled> {
     let mut text = output_bytes();
     let filled = parse::bytes_at(line, 1, &mut text);
     let Filled::Bytes(n) = filled else {
-        return filled;
+        return Ok(filled);
     };
-    read_head(line, &text[..n])
+    read_head(rt, line, &text[..n])
 }
 
 // Whether the line begins so and has so many spaces.
@@ -238,26 +263,26 @@ fn is_call(line: &[u8], start: &[u8], spaces: usize) -> bool {
     parse::starts_with(line, start) && parse::count(line, b' ') == spaces
 }
 
-fn answered(line: &[u8]) -> Filled {
+fn answered(rt: &impl Print, line: &[u8]) -> io::Result<Filled> {
     if is_call(line, b"split ", 6) {
-        return split_secret(line);
+        return split_secret(rt, line);
     }
     if is_call(line, b"combine ", 3) {
-        return combine_rows(line);
+        return combine_rows(rt, line);
     }
     if is_call(line, b"sheet ", 4) {
-        return sheet_rows(line);
+        return sheet_rows(rt, line);
     }
     if is_call(line, b"read ", 3) {
-        return read_text(line);
+        return read_text(rt, line);
     }
-    Filled::Unreadable
+    Ok(Filled::Unreadable)
 }
 
-pub fn run(line: &[u8]) {
-    match answered(line) {
-        Filled::Bytes(_) => {}
-        Filled::Unreadable => print::say(b"unreadable"),
-        Filled::TooLarge => print::say(b"too large"),
+pub fn run(rt: &impl Print, line: &[u8]) -> io::Result<()> {
+    match answered(rt, line)? {
+        Filled::Bytes(_) => Ok(()),
+        Filled::Unreadable => print::say(rt, b"unreadable"),
+        Filled::TooLarge => print::say(rt, b"too large"),
     }
 }

@@ -17,13 +17,14 @@
 // as a whole is not run: `input too large`.
 #![tactic(auto)]
 
-ghost use Rattle.std.specs.Prelude.{◌≡◌, length};
+ghost use Rattle.std.specs.Prelude.{◌≡◌, ◌≤◌, length};
 
 mod calls;
 mod parse;
 mod print;
 
-use libc::STDIN_FILENO;
+use std::io;
+use std::io::Read;
 
 // A text may have this many bytes.
 const MOST: usize = 1048576;
@@ -35,30 +36,49 @@ fn input_bytes() -> [u8; 1048577]
     [0; 1048577]
 }
 
-fn line(text: &[u8]) {
-    if text.len() == 0 || text[0] == b'#' {
-        print::say(text);
-    } else {
-        calls::run(text);
+// Reads until the buffer is full, the input ends or it cannot be read any further, and returns how many bytes it put at the start.
+fn read_full(rt: &impl Input, buf: &mut [u8]) -> usize
+    ensures { result ≤ length buf.new }
+{
+    let mut reader = rt.reader();
+    let mut done = 0;
+    while done < buf.len() {
+        let Ok(n) = reader.read(&mut buf[done..]) else {
+            break;
+        };
+        if n == 0 {
+            break;
+        }
+        done += n;
     }
-    print::say(b"\n");
+    done
 }
 
-fn lines(text: &[u8]) {
+fn line(rt: &impl Print, text: &[u8]) -> io::Result<()> {
+    if text.len() == 0 || text[0] == b'#' {
+        print::say(rt, text)?;
+    } else {
+        calls::run(rt, text)?;
+    }
+    print::say(rt, b"\n")
+}
+
+fn lines(rt: &impl Print, text: &[u8]) -> io::Result<()> {
     let mut at = 0;
     while at < text.len() {
         let end = parse::find(text, at, b'\n');
-        line(&text[at..end]);
+        line(rt, &text[at..end])?;
         at = parse::behind(text, end);
     }
+    Ok(())
 }
 
-fn main() {
+fn main(rt: HostRuntime) -> io::Result<()> {
     let mut input = input_bytes();
-    let n = io::read_full(STDIN_FILENO, &mut input);
+    let n = read_full(&rt, &mut input);
     if n > MOST {
-        print::say(b"input too large\n");
+        print::say(&rt, b"input too large\n")
     } else {
-        lines(&input[..n]);
+        lines(&rt, &input[..n])
     }
 }

@@ -1,7 +1,7 @@
 // Prints answers.
 ghost use Rattle.std.specs.Prelude.{◌<◌};
 
-use libc::STDOUT_FILENO;
+use std::io;
 
 // What lent memory holds before a call.
 pub const UNTOUCHED: u8 = 0xee;
@@ -9,13 +9,13 @@ pub const UNTOUCHED: u8 = 0xee;
 // Words from here on are refusals, the others counts.
 const REFUSALS: u64 = 0x100_0000_0000;
 
-pub fn say(text: &[u8]) {
-    io::write_all(STDOUT_FILENO, text);
+pub fn say(rt: &impl Print, text: &[u8]) -> io::Result<()> {
+    rt.write_all(text)
 }
 
-fn number(n: u64) {
-    say(b" ");
-    io::print_decimal(STDOUT_FILENO, n);
+fn number(rt: &impl Print, n: u64) -> io::Result<()> {
+    say(rt, b" ")?;
+    print!(rt; "{n}")
 }
 
 fn wide(x: u8) -> u64
@@ -24,12 +24,14 @@ fn wide(x: u8) -> u64
     x as u64
 }
 
-fn hex(s: &[u8]) {
+fn hex(rt: &impl Print, s: &[u8]) -> io::Result<()> {
     let mut i = 0;
     while i < s.len() {
-        io::print_hex(STDOUT_FILENO, wide(s[i]), 2);
+        let value = wide(s[i]);
+        print!(rt; "{value:02x}")?;
         i += 1;
     }
+    Ok(())
 }
 
 // A checksum that places count in, so that two bytes changed about are seen.
@@ -55,48 +57,49 @@ fn is_touched(s: &[u8]) -> bool {
 }
 
 // Lent memory at exit, where it is short enough to read, else its checksum.
-fn memory(s: &[u8]) {
+fn memory(rt: &impl Print, s: &[u8]) -> io::Result<()> {
     if s.len() <= 64 {
-        say(b" ");
-        hex(s);
+        say(rt, b" ")?;
+        hex(rt, s)
     } else {
-        say(b" sum");
-        number(checksum(s));
+        say(rt, b" sum")?;
+        number(rt, checksum(s))
     }
 }
 
-fn done(count: u64) {
-    say(b"done");
-    number(count);
+fn done(rt: &impl Print, count: u64) -> io::Result<()> {
+    say(rt, b"done")?;
+    number(rt, count)
 }
 
-fn refused(word: u64, touched: bool) {
-    say(b"refused");
-    number(word / REFUSALS);
-    number(word / 0x1_0000 % 0x100_0000);
-    number(word % 0x1_0000);
+fn refused(rt: &impl Print, word: u64, touched: bool) -> io::Result<()> {
+    say(rt, b"refused")?;
+    number(rt, word / REFUSALS)?;
+    number(rt, word / 0x1_0000 % 0x100_0000)?;
+    number(rt, word % 0x1_0000)?;
     if touched {
-        say(b" changed");
+        say(rt, b" changed")?;
     }
+    Ok(())
 }
 
 // The word that an entry gave back, and the output that it left.
-pub fn answer(word: u64, out: &[u8]) {
+pub fn answer(rt: &impl Print, word: u64, out: &[u8]) -> io::Result<()> {
     if word < REFUSALS {
-        done(word);
-        memory(out);
+        done(rt, word)?;
+        memory(rt, out)
     } else {
-        refused(word, is_touched(out));
+        refused(rt, word, is_touched(out))
     }
 }
 
 // The same where a head was lent as well.
-pub fn answer_with_head(word: u64, head: &[u8], out: &[u8]) {
+pub fn answer_with_head(rt: &impl Print, word: u64, head: &[u8], out: &[u8]) -> io::Result<()> {
     if word < REFUSALS {
-        done(word);
-        memory(head);
-        memory(out);
+        done(rt, word)?;
+        memory(rt, head)?;
+        memory(rt, out)
     } else {
-        refused(word, is_touched(head) || is_touched(out));
+        refused(rt, word, is_touched(head) || is_touched(out))
     }
 }

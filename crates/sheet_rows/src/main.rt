@@ -8,7 +8,8 @@ ghost use Rattle.reading.specs.Unsheet.{after_line};
 ghost use Rattle.sheet_rows.specs.Shown.{ShowsRight};
 
 use answer::Answer;
-use libc::{STDIN_FILENO, STDOUT_FILENO};
+use std::io;
+use std::io::Read;
 
 // A text may have this many bytes.
 const MOST: usize = 49152;
@@ -33,15 +34,34 @@ fn head_bytes() -> [u8; 12]
     [0; 12]
 }
 
-fn say(text: &[u8]) {
-    io::write_all(STDOUT_FILENO, text);
+// Reads until the buffer is full, the input ends or it cannot be read any further, and returns how many bytes it put at the start.
+fn read_full(rt: &impl Input, buf: &mut [u8]) -> usize
+    ensures { result ≤ length buf.new }
+{
+    let mut reader = rt.reader();
+    let mut done = 0;
+    while done < buf.len() {
+        let Ok(n) = reader.read(&mut buf[done..]) else {
+            break;
+        };
+        if n == 0 {
+            break;
+        }
+        done += n;
+    }
+    done
+}
+
+fn say(rt: &impl Print, text: &[u8]) -> io::Result<()> {
+    rt.write_all(text)
 }
 
 // All from a place on, and nothing where there is no such place.
-fn say_from(text: &[u8], at: usize) {
+fn say_from(rt: &impl Print, text: &[u8], at: usize) -> io::Result<()> {
     if at <= text.len() {
-        say(&text[at..]);
+        say(rt, &text[at..])?;
     }
+    Ok(())
 }
 
 // The place behind the first line.
@@ -79,24 +99,21 @@ fn output_of(text: &[u8]) -> Output
     }
 }
 
-fn show(text: &[u8])
+fn show(rt: &impl Print, text: &[u8]) -> io::Result<()>
     requires { length text.now ≤ 49152 }
 {
     match output_of(text) {
-        Output::From(at) => say_from(text, at),
-        Output::Number(n) => {
-            io::print_decimal(STDOUT_FILENO, n);
-            say(b"\n");
-        }
+        Output::From(at) => say_from(rt, text, at),
+        Output::Number(n) => println!(rt; "{n}"),
     }
 }
 
-fn main() {
+fn main(rt: HostRuntime) -> io::Result<()> {
     let mut input = input_bytes();
-    let n = io::read_full(STDIN_FILENO, &mut input);
+    let n = read_full(&rt, &mut input);
     if n > MOST {
-        say(b"too large\n");
+        say(&rt, b"too large\n")
     } else {
-        show(&input[..n]);
+        show(&rt, &input[..n])
     }
 }

@@ -59,12 +59,7 @@ pub fn vsss_combine_bytes(rows: &[u8], lengths: &[u8], out: &mut [u8]) -> u64
     word(sharing::combine_bytes_by_byte_lengths(rows, lengths, out))
 }
 
-pub fn vsss_write_sheet(
-    threshold: usize,
-    rows: &[u8],
-    lengths: &[u8],
-    out: &mut [u8],
-) -> u64
+pub fn vsss_write_sheet(threshold: usize, rows: &[u8], lengths: &[u8], out: &mut [u8]) -> u64
     ensures { Gives
         (sheet_answer threshold rows.now lengths.now (length out.old))
         (sheet_bytes threshold rows.now lengths.now out.old)

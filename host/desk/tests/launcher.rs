@@ -9,8 +9,9 @@ use std::sync::{Mutex, MutexGuard, PoisonError};
 use std::time::Duration;
 use std::{env, fs, thread};
 
-const SOURCES: [&str; 8] = [
+const SOURCES: [&str; 9] = [
     "crates/vsss/src/lib.rt",
+    "crates/vsss_c/src/lib.rt",
     "crates.txt",
     "host/Cargo.toml",
     "host/vsss/Cargo.toml",
@@ -32,14 +33,14 @@ const TOOLS: [(&str, &str); 3] = [("rt", RT), ("cargo", CARGO), ("cc", "#!/bin/s
 
 /// Compiles, where it stands in for a kit shown to itself, by the clang of that kit.
 const RT: &str = "#!/bin/sh
-case $1 in doc) echo \"${0%/bin/rt}/kit/docs/guide\"; exit ;; esac
+case $1 in doc) echo \"${0%/bin/rt}/kit/guide\"; exit ;; esac
 echo \"rt $*\"
-mkdir -p target/staticlib
-module=target/module.bc
+mkdir -p out
+module=out/module.bc
 printf 'target datalayout = \"theirs\"\\ntarget triple = \"theirs\"\\ncode\\n' > $module
 clang=${RATTLE_HOME-}/on/aarch64/toolchain/bin/clang
-if [ ! -x \"$clang\" ]; then mv $module target/staticlib/libvsss.a; exit; fi
-\"$clang\" --target=x86_64 -march=x86-64 -O3 -c -x ir $module -o target/staticlib/libvsss.a
+if [ ! -x \"$clang\" ]; then mv $module out/libvsss_c.a; exit; fi
+\"$clang\" --target=x86_64 -march=x86-64 -O3 -c -x ir $module -o out/libvsss_c.a
 ";
 
 /// Shows a module as text, and compiles it by copying; before that, the words of the call.
@@ -165,7 +166,7 @@ fn all_is_built_once_and_then_it_is_quiet() {
     let (said, code) = tree.run();
     assert_eq!(code, 0, "{said}");
     assert!(said.starts_with("ran: split a b\ndesk: proving"), "{said}");
-    let builds = "\nrt staticlib vsss\nfor this machine: target/host/libvsss.a\n\
+    let builds = "\nrt lib\nfor this machine: target/host/libvsss.a\n\
                   cargo build, library as proved\n";
     assert!(said.ends_with(builds), "{said}");
     assert_eq!(tree.run(), ("ran: split a b\n".to_string(), 0));
@@ -177,8 +178,8 @@ fn on_another_processor_the_module_is_compiled_for_it() {
     let (said, code) = tree.run();
     assert_eq!(code, 0, "{said}");
     let archive = fs::read_to_string(tree.root.join("target/host/libvsss.a")).unwrap();
-    let made = "--target=aarch64-unknown-linux-gnu -O3 -c -x ir target/module.ll \
-                -o target/staticlib/libvsss.a\n\
+    let made = "--target=aarch64-unknown-linux-gnu -O3 -c -x ir out/module.ll \
+                -o out/libvsss_c.a\n\
                 target datalayout = \"ours\"\ntarget triple = \"ours\"\ncode\n";
     assert_eq!(archive, made);
     assert_eq!(tree.run(), ("ran: split a b\n".to_string(), 0));
@@ -192,13 +193,21 @@ fn what_is_older_than_its_source_is_built_again() {
         tree.touch(source);
         let (said, _) = tree.run();
         assert!(said.contains("cargo build"), "{source}: {said}");
-        let proved_again = said.contains("rt staticlib");
+        let proved_again = said.contains("rt lib");
         assert_eq!(
             proved_again,
             source.starts_with("crates"),
             "{source}: {said}"
         );
     }
+}
+
+#[test]
+fn what_the_kit_keeps_beside_its_sources_is_no_source() {
+    let tree = Tree::new("kept", "x86_64");
+    tree.run();
+    tree.touch("crates/vsss/out/kept");
+    assert_eq!(tree.run(), ("ran: split a b\n".to_string(), 0));
 }
 
 #[test]

@@ -1,6 +1,6 @@
 -- `gf256_mul` meets its contract: what is gathered in r, with the product of x and the bits of b that are still to come, is the
 -- product of a and b.
-use Prim.Native.Nat.{ℕ, ◌*◌, ◌<◌, ◌-◌, ◌/◌, ◌^◌}
+use Prim.Native.Nat.{ℕ, ◌*◌, ◌<◌, ◌/◌, ◌^◌}
 use mathlib.Core.Path.{◌≡◌, refl, ◌∙◌}
 use native.Mathlib.Nat.{div-one, div-eq_of_lt, div-div-eq-div-mul, mul-le-mul_right, pow-suc}
 use native.Mathlib.Numerals.{add-one}

@@ -1,5 +1,5 @@
 -- `evaluate_in_place` meets its contract: each turn of the loop takes Horner's rule one degree down.
-use Prim.Native.Nat.{◌<◌, ◌-◌}
+use Prim.Native.Nat.{◌<◌}
 use mathlib.Core.Path.{◌≡◌}
 use lib.ListN.{length}
 use Rattle.polynomial.specs.Steps.{block_size}

@@ -1,5 +1,5 @@
 -- `horner_step` meets its contract: after i turns the first i values have made the step.
-use Prim.Native.Nat.{ℕ, ◌≤◌, ◌-◌, ◌+◌}
+use Prim.Native.Nat.{ℕ, ◌≤◌, ◌-◌}
 use mathlib.Core.Path.{◌≡◌}
 use mathlib.Core.List.{List, ◌++◌}
 use lib.Bits.{bit_xor}

@@ -1,5 +1,4 @@
 -- `judge_equal_rows` meets its contract: each return follows from the searches and tests before it.
-use Prim.Native.Nat.{◌-◌}
 use native.Mathlib.Omega.{arith}
 use Rattle.row_set.proofs.RowSet.{zero-found, repeat_found, too_long, all_well}
 use Rattle.row_set.proofs.judge_equal_rows.Goals as goal

@@ -1,6 +1,5 @@
 -- `add_scaled` meets its contract: the places before k have their product added, the others hold what they held.
 use mathlib.Core.Path.{refl, ap}
-use Prim.Native.Nat.{◌-◌}
 use native.Mathlib.Omega.{arith}
 use lib.Bits.{bit_xor}
 use lib.ListN.{get_or, length-set}

@@ -1,6 +1,5 @@
 -- `all_are` meets its contract: the lengths passed do not decide any more.
 use mathlib.Core.Path.{refl}
-use Prim.Native.Nat.{◌-◌}
 use native.Mathlib.Omega.{arith}
 use lib.ListN.{get_or}
 use Rattle.rows.proofs.Lengths.{same, other, are_all}

@@ -1,6 +1,5 @@
 -- `byte_lengths_are` meets its contract: the lengths passed do not decide any more.
 use mathlib.Core.Path.{refl, sym}
-use Prim.Native.Nat.{◌-◌}
 use native.Mathlib.Omega.{arith}
 use Rattle.rows.specs.Lengths.{lengths_of}
 use Rattle.rows.proofs.Lengths.{same, other, are_all, length-lengths}

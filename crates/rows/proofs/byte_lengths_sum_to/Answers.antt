@@ -1,6 +1,5 @@
 -- `byte_lengths_sum_to` meets its contract: the lengths passed are what was taken off n.
 use mathlib.Core.Path.{refl, sym}
-use Prim.Native.Nat.{◌-◌}
 use native.Mathlib.Omega.{arith}
 use Rattle.rows.specs.Lengths.{lengths_of}
 use Rattle.rows.proofs.Lengths.{left_all, left_less, left_next, length-lengths}

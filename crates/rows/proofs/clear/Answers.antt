@@ -1,6 +1,5 @@
 -- `clear` meets its contract: the places before k are 0.
 use mathlib.Core.Path.{refl}
-use Prim.Native.Nat.{◌-◌}
 use native.Mathlib.Omega.{arith}
 use lib.ListN.{length-set}
 use Rattle.strides.proofs.InPlace.{none, next, all_same}

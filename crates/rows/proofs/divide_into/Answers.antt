@@ -1,6 +1,5 @@
 -- `divide_into` meets its contract: the places before k are divided into p, the others hold what they held.
 use mathlib.Core.Path.{refl, ap, ◌∙◌}
-use Prim.Native.Nat.{◌-◌}
 use native.Mathlib.Omega.{arith}
 use lib.ListN.{length-set}
 use Rattle.gf256.specs.Field256.{mul256}

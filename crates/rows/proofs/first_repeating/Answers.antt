@@ -1,5 +1,4 @@
 -- `first_repeating` meets its contract: what was met is marked, and none of it was met before.
-use Prim.Native.Nat.{◌-◌}
 use native.Mathlib.Omega.{arith}
 use lib.ListN.{length}
 use Rattle.strides.specs.Strides.{strided}

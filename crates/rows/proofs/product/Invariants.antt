@@ -1,7 +1,7 @@
 -- `product` meets its contract: the product of what was passed, from the end.
 use mathlib.Core.Path.{◌≡◌}
 use mathlib.Core.List.{foldr}
-use Prim.Native.Nat.{◌-◌, ◌≤◌}
+use Prim.Native.Nat.{◌≤◌}
 use lib.ListN.{length, drop}
 use Rattle.gf256.specs.Field256.{mul256}
 use Rattle.rows.proofs.product.Given as goal

@@ -1,6 +1,5 @@
 -- `sums_to` meets its contract: the lengths passed are what was taken off n.
 use mathlib.Core.Path.{refl}
-use Prim.Native.Nat.{◌-◌}
 use native.Mathlib.Omega.{arith}
 use lib.ListN.{get_or}
 use Rattle.rows.proofs.Lengths.{left_all, left_less, left_next}

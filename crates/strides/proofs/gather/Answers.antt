@@ -1,6 +1,6 @@
 -- `gather` meets its contract: the places before i hold what is gathered, the others what they held.
 use mathlib.Core.Path.{refl, ap}
-use Prim.Native.Nat.{◌+◌, ◌*◌, ◌-◌}
+use Prim.Native.Nat.{◌+◌, ◌*◌}
 use native.Mathlib.Omega.{arith}
 use lib.ListN.{length, get_or, length-set}
 use Rattle.strides.specs.Strides.{strided}

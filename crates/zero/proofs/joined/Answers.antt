@@ -1,6 +1,5 @@
 -- The bytes passed, joined, answer with the rest as all bytes do. Measure: what is left of the length.
 use mathlib.Core.Path.{refl}
-use Prim.Native.Nat.{◌-◌}
 use native.Mathlib.Omega.{arith}
 use Rattle.zero.proofs.Bytes.{join_next, join_end}
 use Rattle.zero.proofs.joined.Goals as goal

@@ -1,6 +1,6 @@
 -- `take_hex` meets its contract: after k turns the first k bytes are decoded.
 use mathlib.Core.Path.{◌≡◌, refl, ap, ◌∙◌}
-use Prim.Native.Nat.{ℕ, ◌+◌, ◌*◌, ◌-◌, ◌<◌}
+use Prim.Native.Nat.{ℕ, ◌+◌, ◌*◌, ◌<◌}
 use native.Mathlib.Omega.{arith}
 use lib.ListN.{length, get_or, take, drop, length-set}
 use Rattle.sheets.specs.ReadAs.{IsHexDigit, unhex}

@@ -1,5 +1,5 @@
 -- `take_row` meets its contract: the number is the row's identifier, and behind it stand the digits of its values.
-use Prim.Native.Nat.{◌+◌, ◌*◌, ◌-◌, ◌<◌}
+use Prim.Native.Nat.{◌+◌, ◌*◌, ◌<◌}
 use native.Mathlib.Omega.{arith}
 use lib.ListN.{length, length-set}
 use Rattle.reader.proofs.RowDecoded.{id_first, lent, id_byte, word_inside, line-inside, values-stand, row_taken}

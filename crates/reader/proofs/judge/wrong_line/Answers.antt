@@ -1,6 +1,6 @@
 -- `wrong_line` meets its contract: the lines before the next one are those of right rows, and their identifiers are marked.
 use mathlib.Core.Path.{sym, subst}
-use Prim.Native.Nat.{◌+◌, ◌-◌}
+use Prim.Native.Nat.{◌+◌}
 use native.Mathlib.Omega.{arith}
 use lib.ListN.{set}
 use Rattle.reader.specs.Taking.{RowAt}

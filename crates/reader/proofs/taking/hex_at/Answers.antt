@@ -1,6 +1,5 @@
 -- `hex_at` meets its contract: after k turns it is told whether the first k characters are digits.
 use mathlib.Core.Path.{◌≡◌, sym, ap, ◌∙◌, subst}
-use Prim.Native.Nat.{◌-◌}
 use native.Mathlib.Omega.{arith}
 use lib.ListN.{get_or, drop, length-drop}
 use lib.Seq.{get_or-drop}

@@ -1,6 +1,5 @@
 -- `read_number` meets its contract: after k turns the first k characters are digits, with the value v.
 use mathlib.Core.Path.{sym, ap, ◌∙◌}
-use Prim.Native.Nat.{◌-◌}
 use native.Mathlib.Omega.{arith}
 use lib.ListN.{get_or, drop, length-drop}
 use lib.Seq.{get_or-drop}

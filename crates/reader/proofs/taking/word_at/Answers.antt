@@ -1,6 +1,5 @@
 -- `word_at` meets its contract: after k turns the first k letters are those of the word.
 use mathlib.Core.Path.{refl, sym, ap, ◌∙◌}
-use Prim.Native.Nat.{◌-◌}
 use native.Mathlib.Omega.{arith}
 use lib.ListN.{length, get_or, drop, length-drop, length-append}
 use lib.Seq.{get_or-drop}

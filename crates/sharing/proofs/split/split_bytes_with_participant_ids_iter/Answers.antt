@@ -7,16 +7,17 @@ pub overflow_sub-threshold : goal.overflow_sub-threshold
 overflow_sub-threshold c =
     let s = c.args in
     let r = c.split_answer-answer in
-    omega
-    (arith,
-    done-accepted s.threshold s.limit s.secret.now s.participant_ids.now s.coefficients.now s.out.now r.result r.ensures c.in-Done.field-0 c.in-Done.is)
+    omega (
+      arith,
+      done-accepted s.threshold s.limit s.secret.now s.participant_ids.now s.coefficients.now s.out.now r.result r.ensures c.in-Done.field-0 c.in-Done.is,
+    )
 
 pub write_rows-requires : goal.write_rows-requires
 write_rows-requires c =
     let s = c.args in
     let r = c.split_answer-answer in
     let a =
-        done-accepted s.threshold s.limit s.secret.now s.participant_ids.now s.coefficients.now s.out.now r.result r.ensures c.in-Done.field-0 c.in-Done.is in
+    done-accepted s.threshold s.limit s.secret.now s.participant_ids.now s.coefficients.now s.out.now r.result r.ensures c.in-Done.field-0 c.in-Done.is in
     (omega arith, omega arith, omega arith, omega arith)
 
 pub returns-in-Done : goal.returns-in-Done

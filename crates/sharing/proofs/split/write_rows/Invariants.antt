@@ -1,5 +1,5 @@
 -- `write_rows` meets its contract: after j turns the first j rows stand at the front of the output, and behind them what stood there.
-use Prim.Native.Nat.{◌+◌, ◌-◌, ◌≤◌}
+use Prim.Native.Nat.{◌-◌, ◌≤◌}
 use mathlib.Core.Path.{◌≡◌}
 use mathlib.Core.List.{◌++◌}
 use lib.ListN.{length, take, drop}

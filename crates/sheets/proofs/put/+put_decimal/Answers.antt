@@ -1,7 +1,6 @@
 -- `put_decimal` meets its contract; it calls itself for the tenth of the number.
 use native.Mathlib.Omega.{arith}
 use Prim.Native.Nat.{◌<◌}
-use lib.ListN.{length-set}
 use Rattle.sheets.proofs.Decimal.{length-decimal-small, length-decimal_more}
 use Rattle.sheets.proofs.PutDigits.{small_put, last_put}
 use Rattle.sheets.proofs.put.+put_decimal.Goals as goal

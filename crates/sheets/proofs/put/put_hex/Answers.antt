@@ -1,6 +1,6 @@
 -- `put_hex` meets its contract: after k turns the digits of the first k bytes are put.
 use mathlib.Core.Path.{refl, ◌∙◌, subst}
-use Prim.Native.Nat.{◌+◌, ◌-◌}
+use Prim.Native.Nat.{◌+◌}
 use native.Mathlib.Omega.{arith}
 use lib.ListN.{set, length-set}
 use lib.Seq.{take_all}

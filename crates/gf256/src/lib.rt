@@ -68,7 +68,7 @@ pub fn gf256_inverse(a: u8) -> u8
 pub struct Gf256(pub u8);
 
 // An element, or why there is none.
-#[derive(Drop)]
+#[derive(Clone, Copy)]
 pub enum Gf256Answer {
     Done(Gf256),
     Refused(Reason),
@@ -160,7 +160,7 @@ impl Gf256 {
 pub struct IdentifierGf256(pub Gf256);
 
 // An identifier, or why there is none.
-#[derive(Drop)]
+#[derive(Clone, Copy)]
 pub enum IdentifierAnswer {
     Done(IdentifierGf256),
     Refused(Reason),

@@ -24,7 +24,7 @@ fn read_field(text: &[u8], at: usize, least: usize, most: usize) -> usize
 }
 
 // What a first line says.
-#[derive(Drop)]
+#[derive(Clone, Copy)]
 pub struct Head {
     pub threshold: usize,
     pub rows: usize,

@@ -1,2 +1,3 @@
 pub mod Fill
 pub mod Rooms
+pub mod Touched

@@ -1,5 +1,6 @@
 // Prints answers.
 ghost use Rattle.std.specs.Prelude.{◌<◌};
+ghost use Rattle.replay.specs.Touched.{TouchedIs};
 
 use std::io;
 
@@ -45,7 +46,9 @@ fn checksum(s: &[u8]) -> u64 {
     sum
 }
 
-fn is_touched(s: &[u8]) -> bool {
+fn is_touched(s: &[u8]) -> bool
+    ensures { TouchedIs s.now result }
+{
     let mut i = 0;
     while i < s.len() {
         if s[i] != UNTOUCHED {

@@ -11,9 +11,13 @@ import os
 import re
 import sys
 
-NAMES = dict(
-    line.split()
-    for line in """
+
+def table(text):
+    """One name a line, and what it becomes."""
+    return dict(line.split() for line in text.split("\n") if line)
+
+
+NAMES = table("""
 accepted-few accepted_few
 accepts-sheets accepts_sheets
 add-self-left add_self_left
@@ -469,13 +473,9 @@ zero-byte zero_byte
 zero-has-none zero_has_none
 zeros-lt zeros_lt
 zip-self zip_self
-""".split("\n")
-    if line
-)
+""")
 # What port.py turned in the crates alone: the edits and the documents follow.
-TURNED = dict(
-    line.split()
-    for line in """
+TURNED = table("""
 add-assoc add_assoc
 add-comm add_comm
 add-left-comm add_left_comm
@@ -632,9 +632,7 @@ writes-found writes_found
 xor-assoc xor_assoc
 zero-bit zero_bit
 zero-held zero_held
-""".split("\n")
-    if line
-)
+""")
 TOKEN = re.compile(r"[\w'-]+")
 QUOTED = re.compile(r"`[^`\n]*`")
 

@@ -17,14 +17,13 @@
 // as a whole is not run: `input too large`.
 #![tactic(auto)]
 
-ghost use Rattle.std.specs.Prelude.{◌≡◌, ◌≤◌, length};
+ghost use Rattle.std.specs.Prelude.{◌≡◌, length};
 
 mod calls;
 mod parse;
 mod print;
 
 use std::io;
-use std::io::Read;
 
 // A text may have this many bytes.
 const MOST: usize = 1048576;
@@ -34,24 +33,6 @@ fn input_bytes() -> [u8; 1048577]
     ensures { 1048577 ≡ length result }
 {
     [0; 1048577]
-}
-
-// Reads until the buffer is full, the input ends or it cannot be read any further, and returns how many bytes it put at the start.
-fn read_full(rt: &impl Input, buf: &mut [u8]) -> usize
-    ensures { result ≤ length buf.new }
-{
-    let mut reader = rt.reader();
-    let mut done = 0;
-    while done < buf.len() {
-        let Ok(n) = reader.read(&mut buf[done..]) else {
-            break;
-        };
-        if n == 0 {
-            break;
-        }
-        done += n;
-    }
-    done
 }
 
 fn line(rt: &impl Print, text: &[u8]) -> io::Result<()> {
@@ -75,7 +56,7 @@ fn lines(rt: &impl Print, text: &[u8]) -> io::Result<()> {
 
 fn main(rt: HostRuntime) -> io::Result<()> {
     let mut input = input_bytes();
-    let n = read_full(&rt, &mut input);
+    let n = standard_input::read_full(&rt, &mut input);
     if n > MOST {
         print::say(&rt, b"input too large\n")
     } else {

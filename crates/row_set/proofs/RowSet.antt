@@ -22,13 +22,6 @@ use Rattle.row_set.specs.Limits.{max_secret, max_rows}
 use Rattle.row_set.specs.RowSet.{first_length, secret_length, judged_identifiers, judged, judged_rows, unreadable, judged_byte_lengths}
 use Rattle.row_set.proofs.Chains.{Chain, end, then, passed}
 
--- a test of what a call answers, turned round in the code
-pub yes : {r t : Bool} → r ≡ t → r ≡ true → t ≡ true
-yes e h = sym e ∙ h
-
-pub no : {r t : Bool} → r ≡ t → r ≡ false → t ≡ false
-no e h = sym e ∙ h
-
 -- ---- what the lengths decide
 
 module _ (enough : ℕ) (s ns : List ℕ) (later : Outcome) where

@@ -9,7 +9,6 @@ ghost use Rattle.sheet_rows.specs.Shown.{ShowsRight};
 
 use answer::Answer;
 use std::io;
-use std::io::Read;
 
 // A text may have this many bytes.
 const MOST: usize = 49152;
@@ -32,24 +31,6 @@ fn head_bytes() -> [u8; 12]
     ensures { 12 ≡ length result }
 {
     [0; 12]
-}
-
-// Reads until the buffer is full, the input ends or it cannot be read any further, and returns how many bytes it put at the start.
-fn read_full(rt: &impl Input, buf: &mut [u8]) -> usize
-    ensures { result ≤ length buf.new }
-{
-    let mut reader = rt.reader();
-    let mut done = 0;
-    while done < buf.len() {
-        let Ok(n) = reader.read(&mut buf[done..]) else {
-            break;
-        };
-        if n == 0 {
-            break;
-        }
-        done += n;
-    }
-    done
 }
 
 fn say(rt: &impl Print, text: &[u8]) -> io::Result<()> {
@@ -110,7 +91,7 @@ fn show(rt: &impl Print, text: &[u8]) -> io::Result<()>
 
 fn main(rt: HostRuntime) -> io::Result<()> {
     let mut input = input_bytes();
-    let n = read_full(&rt, &mut input);
+    let n = standard_input::read_full(&rt, &mut input);
     if n > MOST {
         say(&rt, b"too large\n")
     } else {

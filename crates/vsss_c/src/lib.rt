@@ -1,11 +1,10 @@
-// The entries of `vsss` under their names for C and Rust. Each hands its arguments on and promises the same.
+// The entries of `vsss` under their names for C and Rust. Each hands its arguments on and promises the same, by the names under which
+// `entries` has theorems about it.
 #![tactic(auto)]
 
 ghost use Rattle.std.specs.Prelude.{◌≡◌, length};
-ghost use Rattle.sharing.specs.Split.{split_outcome, split_bytes};
-ghost use Rattle.sharing.specs.ByteLengths.{byte_lengths_answer, byte_lengths_bytes};
-ghost use Rattle.sheets.specs.Sheet.{sheet_answer, sheet_bytes};
 ghost use Rattle.reading.specs.Answer.{read_answer, read_head, read_rows};
+ghost use Rattle.vsss.specs.Entries.{SplitGives, CombineGives, SheetGives};
 ghost use Rattle.vsss.specs.Words.{Gives};
 
 #[unsafe(no_mangle)]
@@ -17,20 +16,14 @@ pub extern "C" fn vsss_split_bytes(
     coefficients: &[u8],
     out: &mut [u8],
 ) -> u64
-    ensures { Gives
-        (split_outcome threshold limit (length secret.now) ids.now (length coefficients.now) (length out.old))
-        (split_bytes threshold limit secret.now ids.now coefficients.now out.old)
-        result out.new }
+    ensures { SplitGives threshold limit secret.now ids.now coefficients.now out.old result out.new }
 {
     vsss::vsss_split_bytes(threshold, limit, secret, ids, coefficients, out)
 }
 
 #[unsafe(no_mangle)]
 pub extern "C" fn vsss_combine_bytes(rows: &[u8], lengths: &[u8], out: &mut [u8]) -> u64
-    ensures { Gives
-        (byte_lengths_answer rows.now lengths.now (length out.old))
-        (byte_lengths_bytes rows.now lengths.now out.old)
-        result out.new }
+    ensures { CombineGives rows.now lengths.now out.old result out.new }
 {
     vsss::vsss_combine_bytes(rows, lengths, out)
 }
@@ -42,10 +35,7 @@ pub extern "C" fn vsss_write_sheet(
     lengths: &[u8],
     out: &mut [u8],
 ) -> u64
-    ensures { Gives
-        (sheet_answer threshold rows.now lengths.now (length out.old))
-        (sheet_bytes threshold rows.now lengths.now out.old)
-        result out.new }
+    ensures { SheetGives threshold rows.now lengths.now out.old result out.new }
 {
     vsss::vsss_write_sheet(threshold, rows, lengths, out)
 }

@@ -1,62 +1,44 @@
 -- `judge_rows` meets its contract: each return follows from the tests of the lengths before it.
-use mathlib.Core.Path.{refl}
+use mathlib.Core.Path.{refl, sym, ◌∙◌}
 use Prim.Native.Nat.{suc}
 use native.Mathlib.Omega.{arith}
 use lib.ListN.{length, get_or}
-use Rattle.row_set.proofs.RowSet.{yes, no, other-sum, too_few, too_short, unequal, fills, of_equal}
+use Rattle.row_set.proofs.RowSet.{other-sum, too_few, too_short, unequal, fills, of_equal}
 use Rattle.row_set.proofs.judge_rows.Goals as goal
 
 pub returns-then-not-sums_to : goal.returns-then-not-sums_to
 returns-then-not-sums_to c =
     let a = c.args in
-    other-sum (suc a.too_few) a.rows.now a.lengths.now _ (no c.sums_to.ensures c.if-not-sums_to.true)
+    other-sum (suc a.too_few) a.rows.now a.lengths.now _ (sym c.sums_to.ensures ∙ c.if-not-sums_to.true)
 
 pub returns-then-m-too_few : goal.returns-then-m-too_few
 returns-then-m-too_few c =
-    let summed = c in
-    let a = summed.args in
-    too_few (suc a.too_few) a.rows.now a.lengths.now _ (yes summed.sums_to.ensures c.if-not-sums_to.false) (omega (arith, c.if-m-too_few.true))
+    let a = c.args in
+    too_few (suc a.too_few) a.rows.now a.lengths.now _ (sym c.sums_to.ensures ∙ c.if-not-sums_to.false) (omega (arith, c.if-m-too_few.true))
 
 pub returns-then-w-lt2 : goal.returns-then-w-lt2
 returns-then-w-lt2 c =
-    let second = c in
-    let first = second in
-    let summed = first in
-    let a = summed.args in
-    too_short (suc a.too_few) a.rows.now a.lengths.now _ (yes summed.sums_to.ensures first.if-not-sums_to.false) second.if-m-too_few.false c.if-w-lt2.true
+    let a = c.args in
+    too_short (suc a.too_few) a.rows.now a.lengths.now _ (sym c.sums_to.ensures ∙ c.if-not-sums_to.false) c.if-m-too_few.false c.if-w-lt2.true
 
 pub returns-then-not-all_are : goal.returns-then-not-all_are
 returns-then-not-all_are c =
-    let compared = c in
-    let third = compared in
-    let second = third in
-    let first = second in
-    let summed = first in
-    let a = summed.args in
-    unequal (suc a.too_few) a.rows.now a.lengths.now _ (yes summed.sums_to.ensures first.if-not-sums_to.false) second.if-m-too_few.false third.if-w-lt2.false
-    (no compared.all_are.ensures c.if-not-all_are.true)
+    let a = c.args in
+    unequal (suc a.too_few) a.rows.now a.lengths.now _ (sym c.sums_to.ensures ∙ c.if-not-sums_to.false) c.if-m-too_few.false c.if-w-lt2.false
+    (sym c.all_are.ensures ∙ c.if-not-all_are.true)
 
 pub overflow_cast-w : goal.overflow_cast-w
 overflow_cast-w c = omega (arith, c.type_inv.lengths 0)
 
 pub judge_equal_rows-requires : goal.judge_equal_rows-requires
 judge_equal_rows-requires c =
-    let compared = c in
-    let first = compared in
-    let summed = first in
-    let a = summed.args in
+    let a = c.args in
     let ns = a.lengths.now in
-    (fills ns (get_or ns 0 0) (length ns) (yes compared.all_are.ensures c.if-not-all_are.false) refl (length a.rows.now) (yes summed.sums_to.ensures first.if-not-sums_to.false), omega arith)
+    (fills ns (get_or ns 0 0) (length ns) (sym c.all_are.ensures ∙ c.if-not-all_are.false) refl (length a.rows.now) (sym c.sums_to.ensures ∙ c.if-not-sums_to.false), omega arith)
 
 pub returns : goal.returns
 returns c =
-    let fourth = c in
-    let compared = fourth in
-    let third = compared in
-    let second = third in
-    let first = second in
-    let summed = first in
-    let a = summed.args in
+    let a = c.args in
     let ns = a.lengths.now in
-    of_equal (suc a.too_few) a.rows.now ns (get_or ns 0 0) (length ns) (yes summed.sums_to.ensures first.if-not-sums_to.false) second.if-m-too_few.false third.if-w-lt2.false
-    (yes compared.all_are.ensures fourth.if-not-all_are.false) refl refl c.judge_equal_rows.ensures
+    of_equal (suc a.too_few) a.rows.now ns (get_or ns 0 0) (length ns) (sym c.sums_to.ensures ∙ c.if-not-sums_to.false) c.if-m-too_few.false c.if-w-lt2.false
+    (sym c.all_are.ensures ∙ c.if-not-all_are.false) refl refl c.judge_equal_rows.ensures

@@ -11,7 +11,5 @@ returns-then-m-gt-MAX_ROWS c = let a = c.args in too_many (suc a.too_few) a.rows
 
 pub returns : goal.returns
 returns c =
-    let second = c in
-    let first = second in
-    let a = first.args in
-    by_lengths (suc a.too_few) a.rows.now a.lengths.now _ first.if-odd-ne0.false second.if-m-gt-MAX_ROWS.false c.judge_reading_lengths.ensures
+    let a = c.args in
+    by_lengths (suc a.too_few) a.rows.now a.lengths.now _ c.if-odd-ne0.false c.if-m-gt-MAX_ROWS.false c.judge_reading_lengths.ensures

@@ -20,40 +20,35 @@ loop-i-init c = (omega arith, refl, omega arith, refl, refl)
 pub overflow_add-v : goal.overflow_add-v
 overflow_add-v c =
     let l = c.loop-i in
-    let s = c in
-    let a = s.args in
-    omega (arith, row-end a.coefficients.now a.out.now a.rows.now l.i l.at _ (omega arith) refl l.invariant.2 s.requires)
+    let a = c.args in
+    omega (arith, row-end a.coefficients.now a.out.now a.rows.now l.i l.at _ (omega arith) refl l.invariant.2 c.requires)
 
 pub overflow_add-e : goal.overflow_add-e
 overflow_add-e c =
     let l = c.loop-i in
-    let s = c in
-    let a = s.args in
-    omega (arith, row-end a.coefficients.now a.out.now a.rows.now l.i l.at _ (omega arith) refl l.invariant.2 s.requires)
+    let a = c.args in
+    omega (arith, row-end a.coefficients.now a.out.now a.rows.now l.i l.at _ (omega arith) refl l.invariant.2 c.requires)
 
 pub slice_bounds-add_scaled-end : goal.slice_bounds-add_scaled-end
 slice_bounds-add_scaled-end c =
     let l = c.loop-i in
-    let s = c in
-    let a = s.args in
-    omega (arith, row-end a.coefficients.now a.out.now a.rows.now l.i l.at _ (omega arith) refl l.invariant.2 s.requires)
+    let a = c.args in
+    omega (arith, row-end a.coefficients.now a.out.now a.rows.now l.i l.at _ (omega arith) refl l.invariant.2 c.requires)
 
 pub add_scaled-requires : goal.add_scaled-requires
 add_scaled-requires c =
     let l = c.loop-i in
-    let s = c in
-    let a = s.args in
+    let a = c.args in
     l.invariant.3
     ∙ sym (values_length l.at (length a.out.now) a.rows.now
-    (row-end a.coefficients.now a.out.now a.rows.now l.i l.at _ (omega arith) refl l.invariant.2 s.requires))
+    (row-end a.coefficients.now a.out.now a.rows.now l.i l.at _ (omega arith) refl l.invariant.2 c.requires))
 
 pub loop-i-preserved : goal.loop-i-preserved
 loop-i-preserved c =
     let l = c.loop-i in
-    let s = c in
-    let a = s.args in
+    let a = c.args in
     let w = length a.out.now + 1 in
-    let ends = row-end a.coefficients.now a.out.now a.rows.now l.i l.at w (omega arith) refl l.invariant.2 s.requires in
+    let ends = row-end a.coefficients.now a.out.now a.rows.now l.i l.at w (omega arith) refl l.invariant.2 c.requires in
     let e = c.add_scaled.ensures in (
       omega arith,
       refl,

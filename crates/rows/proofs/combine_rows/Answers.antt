@@ -17,30 +17,26 @@ lent : (w m : ℕ) (s : List ℕ) → Ready w m s → ((i : ℕ) → get_or s i 
 lent w m s r b = length-take-le m (replicate 255 0) (ready_few w m s r b)
 
 pub slice_bounds-ids-end : goal.slice_bounds-ids-end
-slice_bounds-ids-end c = let s = c in ready_few _ s.args.m s.args.rows.now s.requires (λ i. (c.type_inv.rows i).fits)
+slice_bounds-ids-end c = ready_few _ c.args.m c.args.rows.now c.requires (λ i. (c.type_inv.rows i).fits)
 
 pub slice_bounds-combine_with-end : goal.slice_bounds-combine_with-end
-slice_bounds-combine_with-end c = let s = c in sym (lent _ s.args.m s.args.rows.now s.requires (λ i. (c.type_inv.rows i).fits))
+slice_bounds-combine_with-end c = sym (lent _ c.args.m c.args.rows.now c.requires (λ i. (c.type_inv.rows i).fits))
 
 pub slice_bounds-coefficients-end : goal.slice_bounds-coefficients-end
-slice_bounds-coefficients-end c = let s = c in ready_few _ s.args.m s.args.rows.now s.requires (λ i. (c.type_inv.rows i).fits)
+slice_bounds-coefficients-end c = ready_few _ c.args.m c.args.rows.now c.requires (λ i. (c.type_inv.rows i).fits)
 
 pub slice_bounds-combine_with-end-2 : goal.slice_bounds-combine_with-end-2
-slice_bounds-combine_with-end-2 c = let s = c in sym (lent _ s.args.m s.args.rows.now s.requires (λ i. (c.type_inv.rows i).fits))
+slice_bounds-combine_with-end-2 c = sym (lent _ c.args.m c.args.rows.now c.requires (λ i. (c.type_inv.rows i).fits))
 
 pub combine_with-requires : goal.combine_with-requires
 combine_with-requires c =
-    let known = c in
-    let s = known in
-    let a = s.args in
-    (refl, subst (λ n. Ready (length a.out.now + 1) n a.rows.now) (sym (lent _ a.m a.rows.now s.requires (λ i. (known.type_inv.rows i).fits))) s.requires)
+    let a = c.args in
+    (refl, subst (λ n. Ready (length a.out.now + 1) n a.rows.now) (sym (lent _ a.m a.rows.now c.requires (λ i. (c.type_inv.rows i).fits))) c.requires)
 
 pub returns : goal.returns
 returns c =
-    let known = c in
-    let s = known in
-    let a = s.args in
+    let a = c.args in
     let l = length a.out.now in
     c.combine_with.ensures
     ∙ ap (λ n. combined gf256 0 (strided (l + 1) 0 n a.rows.now) (values (cut (replicate n (l + 1)) a.rows.now)) l)
-    (lent _ a.m a.rows.now s.requires (λ i. (known.type_inv.rows i).fits))
+    (lent _ a.m a.rows.now c.requires (λ i. (c.type_inv.rows i).fits))

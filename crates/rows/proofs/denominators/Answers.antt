@@ -12,16 +12,14 @@ use Rattle.rows.proofs.denominators.Goals as goal
 
 pub loop-j-init : goal.loop-j-init
 loop-j-init c =
-    let s = c in
-    let xs = s.args.xs.now in
-    let ds = s.args.ds.now in
-    (omega arith, denominators_none ds xs s.requires (λ k. (c.type_inv.ds k).fits) ∙ ap (λ l. zip_with (λ d x. mul256 d (others gf256 x x l)) ds xs) (sym (drop-length xs)))
+    let xs = c.args.xs.now in
+    let ds = c.args.ds.now in
+    (omega arith, denominators_none ds xs c.requires (λ k. (c.type_inv.ds k).fits) ∙ ap (λ l. zip_with (λ d x. mul256 d (others gf256 x x l)) ds xs) (sym (drop-length xs)))
 
 pub times_differences-requires : goal.times_differences-requires
 times_differences-requires c =
-    let s = c in
-    let a = s.args in
-    zip-long _ a.ds.now a.xs.now _ c.loop-j.invariant.1 s.requires ∙ s.requires
+    let a = c.args in
+    zip-long _ a.ds.now a.xs.now _ c.loop-j.invariant.1 c.requires ∙ c.requires
 
 pub loop-j-preserved : goal.loop-j-preserved
 loop-j-preserved c =
@@ -31,9 +29,8 @@ loop-j-preserved c =
 
 pub shape_of-ds : goal.shape_of-ds
 shape_of-ds c =
-    let s = c in
-    let a = s.args in
-    zip-long _ a.ds.now a.xs.now _ c.loop-j.invariant.1 s.requires
+    let a = c.args in
+    zip-long _ a.ds.now a.xs.now _ c.loop-j.invariant.1 c.requires
 
 pub returns : goal.returns
 returns c =

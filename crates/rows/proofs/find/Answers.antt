@@ -39,9 +39,8 @@ loop-i-init c = (omega arith, refl, refl)
 pub bounds-rows-at : goal.bounds-rows-at
 bounds-rows-at c =
     let l = c.loop-i in
-    let s = c in
-    let a = s.args in
-    omega (arith, within-storage l.i a.m a.w (length a.rows.now) (omega arith) s.requires.1)
+    let a = c.args in
+    omega (arith, within-storage l.i a.m a.w (length a.rows.now) (omega arith) c.requires.1)
 
 pub returns-then-rows-at : goal.returns-then-rows-at
 returns-then-rows-at c =
@@ -52,9 +51,8 @@ returns-then-rows-at c =
 pub overflow_add-at : goal.overflow_add-at
 overflow_add-at c =
     let l = c.loop-i in
-    let s = c in
-    let a = s.args in
-    omega (arith, within-storage l.i a.m a.w (length a.rows.now) (omega arith) s.requires.1)
+    let a = c.args in
+    omega (arith, within-storage l.i a.m a.w (length a.rows.now) (omega arith) c.requires.1)
 
 pub loop-i-preserved : goal.loop-i-preserved
 loop-i-preserved c =

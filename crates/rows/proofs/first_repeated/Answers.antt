@@ -23,21 +23,18 @@ first s w m i j h e f =
 
 pub overflow_mul-at : goal.overflow_mul-at
 overflow_mul-at c =
-    let s = c in
-    let a = s.args in
-    record { fits = omega (arith, within-storage a.j a.m a.w (length a.rows.now) s.requires.0 s.requires.1) }
+    let a = c.args in
+    record { fits = omega (arith, within-storage a.j a.m a.w (length a.rows.now) c.requires.0 c.requires.1) }
 
 pub bounds-rows-at : goal.bounds-rows-at
 bounds-rows-at c =
-    let s = c in
-    let a = s.args in
-    omega (arith, within-storage a.j a.m a.w (length a.rows.now) s.requires.0 s.requires.1, s.requires.2)
+    let a = c.args in
+    omega (arith, within-storage a.j a.m a.w (length a.rows.now) c.requires.0 c.requires.1, c.requires.2)
 
 pub find-requires : goal.find-requires
-find-requires c = let s = c in (omega arith, s.requires.1, s.requires.2)
+find-requires c = (omega arith, c.requires.1, c.requires.2)
 
 pub returns : goal.returns
 returns c =
-    let s = c in
-    let a = s.args in
-    first a.rows.now a.w a.m _ a.j s.requires.0 s.requires.3 c.find.ensures
+    let a = c.args in
+    first a.rows.now a.w a.m _ a.j c.requires.0 c.requires.3 c.find.ensures

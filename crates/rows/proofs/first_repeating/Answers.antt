@@ -14,9 +14,8 @@ loop-j-init c = (omega arith, omega arith, seen_none, omega arith)
 pub bounds-rows-at : goal.bounds-rows-at
 bounds-rows-at c =
     let l = c.loop-j in
-    let s = c in
-    let a = s.args in
-    omega (arith, within-storage l.j a.m a.w (length a.rows.now) (omega arith) s.requires.0)
+    let a = c.args in
+    omega (arith, within-storage l.j a.m a.w (length a.rows.now) (omega arith) c.requires.0)
 
 pub overflow_cast-x : goal.overflow_cast-x
 overflow_cast-x c = omega (arith, c.type_inv.rows c.loop-j.at)
@@ -39,9 +38,8 @@ bounds-seen-x-in-loop-j c = omega (arith, c.type_inv.rows c.loop-j.at)
 pub overflow_add-at : goal.overflow_add-at
 overflow_add-at c =
     let l = c.loop-j in
-    let s = c in
-    let a = s.args in
-    omega (arith, within-storage l.j a.m a.w (length a.rows.now) (omega arith) s.requires.0)
+    let a = c.args in
+    omega (arith, within-storage l.j a.m a.w (length a.rows.now) (omega arith) c.requires.0)
 
 pub loop-j-preserved : goal.loop-j-preserved
 loop-j-preserved c =

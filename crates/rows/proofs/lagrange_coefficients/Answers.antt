@@ -14,13 +14,7 @@ below_of n xs h = subst (Below n) (strided-one xs) (strided-lt n 1 0 (length xs)
 
 pub returns : goal.returns
 returns c =
-    let divided = c in
-    let multiplied = divided in
-    let differed = multiplied in
-    let gathered = differed in
-    let known = gathered in
-    let s = known in
-    let ids = s.args.ids.now in
-    let e = gathered.gather.ensures ∙ ap (λ n. strided 1 0 n ids) s.requires.0 ∙ strided-one ids in
-    coefficients_are ids _ _ _ _ (below_of 256 ids (λ i. (known.type_inv.ids i).fits)) s.requires.1 s.requires.2 e
-    differed.denominators.ensures multiplied.product-p.ensures divided.divide_into.ensures
+    let ids = c.args.ids.now in
+    let e = c.gather.ensures ∙ ap (λ n. strided 1 0 n ids) c.requires.0 ∙ strided-one ids in
+    coefficients_are ids _ _ _ _ (below_of 256 ids (λ i. (c.type_inv.ids i).fits)) c.requires.1 c.requires.2 e
+    c.denominators.ensures c.product-p.ensures c.divide_into.ensures

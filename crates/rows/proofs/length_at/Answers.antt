@@ -8,5 +8,4 @@ little-requires c = tt
 
 pub returns : goal.returns
 returns c =
-    let s = c in
-    c.little.ensures ∙ length_is s.args.bytes.now s.args.i s.requires
+    c.little.ensures ∙ length_is c.args.bytes.now c.args.i c.requires

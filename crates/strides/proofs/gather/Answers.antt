@@ -14,16 +14,14 @@ loop-i-init c = (omega arith, none)
 pub bounds-from-at : goal.bounds-from-at
 bounds-from-at c =
     let l = c.loop-i in
-    let s = c in
-    let a = s.args in
-    omega (arith, l.invariant.1.long, within-storage l.i (length a.out.now) a.stride (length a.from.now) (omega arith) s.requires.1)
+    let a = c.args in
+    omega (arith, l.invariant.1.long, within-storage l.i (length a.out.now) a.stride (length a.from.now) (omega arith) c.requires.1)
 
 pub overflow_add-at : goal.overflow_add-at
 overflow_add-at c =
     let l = c.loop-i in
-    let s = c in
-    let a = s.args in
-    omega (arith, s.well_formed, within-storage l.i (length a.out.now) a.stride (length a.from.now) (omega arith) s.requires.1)
+    let a = c.args in
+    omega (arith, c.well_formed, within-storage l.i (length a.out.now) a.stride (length a.from.now) (omega arith) c.requires.1)
 
 pub loop-i-smaller : goal.loop-i-smaller
 loop-i-smaller c = simp length-set (omega arith)

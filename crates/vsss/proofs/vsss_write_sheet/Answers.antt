@@ -8,10 +8,9 @@ use Rattle.vsss.proofs.vsss_write_sheet.Goals as goal
 
 pub word-requires : goal.word-requires
 word-requires c =
-    let known = c in
-    let s = known.args in
+    let s = c.args in
     subst (λ o. word_of o < 2 ^ 64) (sym c.write_sheet.ensures.answers)
-    (sheet_word s.threshold s.rows.now s.lengths.now (length s.out.now) (λ i. (known.type_inv.rows i).fits))
+    (sheet_word s.threshold s.rows.now s.lengths.now (length s.out.now) (λ i. (c.type_inv.rows i).fits))
 
 pub returns : goal.returns
 returns c =

@@ -9,10 +9,8 @@ loop-i-init c = (omega arith, refl)
 
 pub loop-i-preserved : goal.loop-i-preserved
 loop-i-preserved c =
-    let l = c in
-    (omega arith, join_next l.args.s.now l.loop-i.i l.loop-i.t (omega arith) l.loop-i.invariant.1)
+    (omega arith, join_next c.args.s.now c.loop-i.i c.loop-i.t (omega arith) c.loop-i.invariant.1)
 
 pub returns : goal.returns
 returns c =
-    let l = c in
-    join_end l.args.s.now l.loop-i.i l.loop-i.t (omega arith) l.loop-i.invariant.1
+    join_end c.args.s.now c.loop-i.i c.loop-i.t (omega arith) c.loop-i.invariant.1

@@ -13,9 +13,8 @@ use Rattle.reader.proofs.decode.take_hex.Goals.{In-loop-k}
 digit-here : (c : In-loop-k) (j i : ℕ) → j < 2 → i ≡ c.loop-k.i + j
     → let text = c.args.text.now in (i < length text) × IsHexDigit (get_or text i 0)
 digit-here c j i few is =
-    let s = c in
     let l = c.loop-k in
-    digit_there s.args.text.now s.args.at (length s.args.out.now * 2) (l.k * 2 + j) i s.requires (omega arith) (omega arith)
+    digit_there c.args.text.now c.args.at (length c.args.out.now * 2) (l.k * 2 + j) i c.requires (omega arith) (omega arith)
 
 pub loop-k-init : goal.loop-k-init
 loop-k-init c = let a = c.args in (omega arith, omega arith, refl, puts_nothing 0 a.out.now)
@@ -46,15 +45,14 @@ overflow_add-i-in-loop-k c = omega (arith, (digit-here (goal.at.overflow_add-i-i
 
 pub loop-k-preserved : goal.loop-k-preserved
 loop-k-preserved c =
-    let s = c in
     let l = c.loop-k in
     let h = c.hex_value in
     let g = c.hex_value-in-loop-k in (
       omega arith,
       omega arith,
       length-set l.out l.k (h.result * 16 + g.result) ∙ l.invariant.2,
-      unhex_step s.args.text.now s.args.at (length s.args.out.now * 2) l.k l.i s.args.out.now l.out h.result g.result
-          s.requires (omega arith) l.invariant.1 (omega arith) h.ensures.0 g.ensures.0 l.invariant.3,
+      unhex_step c.args.text.now c.args.at (length c.args.out.now * 2) l.k l.i c.args.out.now l.out h.result g.result
+          c.requires (omega arith) l.invariant.1 (omega arith) h.ensures.0 g.ensures.0 l.invariant.3,
     )
 
 pub shape_of-out : goal.shape_of-out

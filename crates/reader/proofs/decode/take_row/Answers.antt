@@ -13,9 +13,8 @@ starts c = word_inside c.args.text.now c.args.at c.args.l c.requires.0
 -- .. and so is its end
 ends : (c : After-decimal_length) → let a = c.args in a.at + 5 + c.decimal_length.result + a.l * 2 < length a.text.now
 ends c =
-    let s = c in
-    let a = s.args in
-    line-inside a.text.now a.at a.l c.read_number-id.result c.decimal_length.result c.read_number-id.ensures c.decimal_length.ensures.0 s.requires.0
+    let a = c.args in
+    line-inside a.text.now a.at a.l c.read_number-id.result c.decimal_length.result c.read_number-id.ensures c.decimal_length.ensures.0 c.requires.0
 
 pub overflow_add-at : goal.overflow_add-at
 overflow_add-at c = omega (arith, starts (goal.at.overflow_add-at c).Start)
@@ -31,10 +30,9 @@ overflow_add-digits-2 c = omega (arith, ends (goal.at.overflow_add-digits-2 c).A
 
 pub overflow_cast-out : goal.overflow_cast-out
 overflow_cast-out c =
-    let s = c in
-    let a = s.args in
+    let a = c.args in
     let number = c.read_number-id in
-    let byte = id_byte a.text.now a.at a.l number.result c.decimal_length.result number.ensures c.decimal_length.ensures.0 s.requires.0 in
+    let byte = id_byte a.text.now a.at a.l number.result c.decimal_length.result number.ensures c.decimal_length.ensures.0 c.requires.0 in
     omega arith
 
 pub slice_bounds-take_hex-count : goal.slice_bounds-take_hex-count
@@ -45,12 +43,11 @@ slice_bounds-take_hex-start c = simp length-set (omega arith)
 
 pub take_hex-requires : goal.take_hex-requires
 take_hex-requires c =
-    let s = c in
-    let a = s.args in
+    let a = c.args in
     let number = c.read_number-id in
     let digits = c.decimal_length in
-    values-stand a.text.now a.at a.l number.result digits.result number.ensures digits.ensures.0 s.requires.0 _
-    (lent number.result a.out.now a.l s.requires.1)
+    values-stand a.text.now a.at a.l number.result digits.result number.ensures digits.ensures.0 c.requires.0 _
+    (lent number.result a.out.now a.l c.requires.1)
 
 pub overflow_add-result : goal.overflow_add-result
 overflow_add-result c = omega (arith, ends (goal.at.overflow_add-result c).After-decimal_length)
@@ -60,10 +57,9 @@ overflow_add-result-2 c = omega (arith, ends (goal.at.overflow_add-result-2 c).A
 
 pub returns : goal.returns
 returns c =
-    let s = c in
-    let a = s.args in
+    let a = c.args in
     let number = c.read_number-id in
     let digits = c.decimal_length in
     let taken = c.take_hex in
     row_taken a.text.now a.at a.l number.result digits.result number.ensures digits.ensures.0 taken.new.out _ _
-    (lent number.result a.out.now a.l s.requires.1) taken.ensures (id_first number.result a.out.now taken.new.out (omega (arith, s.requires.1)))
+    (lent number.result a.out.now a.l c.requires.1) taken.ensures (id_first number.result a.out.now taken.new.out (omega (arith, c.requires.1)))

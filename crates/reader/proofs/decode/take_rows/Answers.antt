@@ -13,9 +13,8 @@ use Rattle.reader.proofs.decode.take_rows.Goals.{In-loop-i}
 -- the row's place is inside
 inside : (c : In-loop-i) → c.loop-i.p + c.args.l + 1 ≤ length c.loop-i.out
 inside c =
-    let s = c in
     let l = c.loop-i in
-    omega (arith, row_inside s.args.m (s.args.l + 1) s.args.out.now l.i c.loop-i-test.true s.requires.1)
+    omega (arith, row_inside c.args.m (c.args.l + 1) c.args.out.now l.i c.loop-i-test.true c.requires.1)
 
 pub loop-i-init : goal.loop-i-init
 loop-i-init c = let a = c.args in (omega arith, sym (zero-mul (a.l + 1)), refl, none_taken a.text.now a.at a.m a.l a.out.now)
@@ -31,10 +30,9 @@ slice_bounds-take_row-end c = inside (goal.at.slice_bounds-take_row-end c).In-lo
 
 pub take_row-next-requires : goal.take_row-next-requires
 take_row-next-requires c =
-    let s = c in
-    let a = s.args in
+    let a = c.args in
     let l = c.loop-i in (
-      some-row a.text.now a.at a.m a.l l.i l.next l.p a.out.now l.out l.invariant.3 c.loop-i-test.true s.requires.0,
+      some-row a.text.now a.at a.m a.l l.i l.next l.p a.out.now l.out l.invariant.3 c.loop-i-test.true c.requires.0,
       mid_len l.p (l.p + a.l + 1) l.out (inside (goal.at.take_row-next-requires c).In-loop-i) ∙ omega arith,
     )
 

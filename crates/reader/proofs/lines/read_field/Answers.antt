@@ -13,20 +13,16 @@ read_number-n-requires c = omega (arith, (c.is_at.ensures.yes c.if-not-is_at.fal
 
 pub returns-then-n-least : goal.returns-then-n-least
 returns-then-n-least c =
-    let s = c in
-    let a = s.args in
-    too_low a.text.now a.at a.least a.most s.requires.1 s.requires.2 c.read_number-n.ensures c.if-n-least.true
+    let a = c.args in
+    too_low a.text.now a.at a.least a.most c.requires.1 c.requires.2 c.read_number-n.ensures c.if-n-least.true
 
 pub returns-then-most-n : goal.returns-then-most-n
 returns-then-most-n c =
-    let s = c in
-    let a = s.args in
-    too_high a.text.now a.at a.least a.most s.requires.1 s.requires.2 c.read_number-n.ensures c.if-most-n.true
+    let a = c.args in
+    too_high a.text.now a.at a.least a.most c.requires.1 c.requires.2 c.read_number-n.ensures c.if-most-n.true
 
 pub returns : goal.returns
 returns c =
-    let tabbed = c in
-    let s = tabbed in
-    let a = s.args in
-    in_range a.text.now a.at a.least a.most s.requires.1 s.requires.2 c.read_number-n.ensures
-    (tabbed.is_at.ensures.yes tabbed.if-not-is_at.false).1 c.if-n-least.false c.if-most-n.false
+    let a = c.args in
+    in_range a.text.now a.at a.least a.most c.requires.1 c.requires.2 c.read_number-n.ensures
+    (c.is_at.ensures.yes c.if-not-is_at.false).1 c.if-n-least.false c.if-most-n.false

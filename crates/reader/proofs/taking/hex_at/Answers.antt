@@ -27,24 +27,22 @@ is_hex_digit-all-requires c = tt
 pub loop-k-preserved : goal.loop-k-preserved
 loop-k-preserved c =
     let l = c.loop-k in
-    let first = c in
-    let a = first.args in
+    let a = c.args in
     let char = get_or-drop a.at a.text.now l.k 0 ∙ ap (λ j. get_or a.text.now j 0) (sym l.invariant.0) in
     let digit = c.is_hex_digit-all in (
       omega (arith, l.invariant.0),
       omega arith,
-      told_more _ digit.result l.invariant.2 (omega (arith, c.loop-k-test.true, first.if-text-at.false, length-drop a.at a.text.now)) (sym char)
+      told_more _ digit.result l.invariant.2 (omega (arith, c.loop-k-test.true, c.if-text-at.false, length-drop a.at a.text.now)) (sym char)
           digit.ensures.0 digit.ensures.1,
     )
 
 pub returns : goal.returns
 returns c =
     let l = c.loop-k in
-    let first = c in
-    let a = first.args in
+    let a = c.args in
     let all : l.k ≡ a.count = omega arith in
     let told = subst (λ n. Told (drop a.at a.text.now) n l.all) all l.invariant.2 in
     record {
-      yes = λ e. (omega (arith, first.if-text-at.false, length-drop a.at a.text.now), told.yes e);
+      yes = λ e. (omega (arith, c.if-text-at.false, length-drop a.at a.text.now), told.yes e);
       no = λ e h. told.no e h.1;
     }

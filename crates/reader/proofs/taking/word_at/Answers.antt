@@ -37,23 +37,20 @@ returns-then-text-i c =
 pub loop-k-preserved : goal.loop-k-preserved
 loop-k-preserved c =
     let l = c.loop-k in
-    let first = c in
-    let a = first.args in
+    let a = c.args in
     let more = c.loop-k-test.true in
     let char = get_or-drop a.at a.text.now l.k 0 ∙ ap (λ j. get_or a.text.now j 0) (sym l.invariant.0) in (
       omega (arith, l.invariant.0),
       omega arith,
-      one_letter (drop a.at a.text.now) a.word.now l.k l.invariant.2 (omega (arith, first.if-text-at.false, length-drop a.at a.text.now)) more
+      one_letter (drop a.at a.text.now) a.word.now l.k l.invariant.2 (omega (arith, c.if-text-at.false, length-drop a.at a.text.now)) more
           (char ∙ c.if-text-i.false),
     )
 
 pub returns : goal.returns
 returns c =
     let l = c.loop-k in
-    let first = c in
-    let s = first in
-    let a = s.args in
+    let a = c.args in
     record {
-      yes = λ e. (omega (arith, first.if-text-at.false, s.requires), word_stands a.text.now a.word.now a.at l.k l.invariant.2 (omega arith));
+      yes = λ e. (omega (arith, c.if-text-at.false, c.requires), word_stands a.text.now a.word.now a.at l.k l.invariant.2 (omega arith));
       no = yes-no;
     }

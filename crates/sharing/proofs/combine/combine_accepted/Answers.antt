@@ -22,19 +22,16 @@ slice_bounds-combine_rows-end-2 c =
 
 pub combine_rows-requires : goal.combine_rows-requires
 combine_rows-requires c =
-    let s = c in
-    let a = s.args in
-    subst (λ n. Ready (n + 1) a.m a.rows.now) (sym (length-take-le a.l a.out.now c.if-out-l.false)) s.requires
+    let a = c.args in
+    subst (λ n. Ready (n + 1) a.m a.rows.now) (sym (length-take-le a.l a.out.now c.if-out-l.false)) c.requires
 
 pub returns : goal.returns
 returns c =
-    let called = c in
-    let tested = called in
-    let a = tested.args in
+    let a = c.args in
     let s = a.rows.now in
-    let long = length-take-le a.l a.out.now tested.if-out-l.false in
+    let long = length-take-le a.l a.out.now c.if-out-l.false in
     record {
-      answers = sym (simp (le-ltb _ _ tested.if-out-l.false));
+      answers = sym (simp (le-ltb _ _ c.if-out-l.false));
       leaves = ap (◌++ drop a.l a.out.now)
-          (called.combine_rows.ensures ∙ ap (λ n. combined gf256 0 (strided (n + 1) 0 a.m s) (values (cut (replicate a.m (n + 1)) s)) n) long);
+          (c.combine_rows.ensures ∙ ap (λ n. combined gf256 0 (strided (n + 1) 0 a.m s) (values (cut (replicate a.m (n + 1)) s)) n) long);
     }

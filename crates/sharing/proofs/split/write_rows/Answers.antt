@@ -15,54 +15,48 @@ pub loop-j-init : goal.loop-j-init
 loop-j-init c = (omega arith, sym (zero-mul (length c.args.secret.now + 1)), refl, refl)
 
 pub bounds-ids-j : goal.bounds-ids-j
-bounds-ids-j c = let s = c in omega (arith, s.requires.0)
+bounds-ids-j c = omega (arith, c.requires.0)
 
 pub overflow_add-values : goal.overflow_add-values
 overflow_add-values c =
-    let s = c in
-    omega (arith, row_ends c.loop-j.j s.args.n (length s.args.secret.now) (length s.args.out.now) (omega arith) s.requires.3)
+    omega (arith, row_ends c.loop-j.j c.args.n (length c.args.secret.now) (length c.args.out.now) (omega arith) c.requires.3)
 
 pub overflow_add-next : goal.overflow_add-next
 overflow_add-next c =
-    let s = c in
-    omega (arith, row_ends c.loop-j.j s.args.n (length s.args.secret.now) (length s.args.out.now) (omega arith) s.requires.3)
+    omega (arith, row_ends c.loop-j.j c.args.n (length c.args.secret.now) (length c.args.out.now) (omega arith) c.requires.3)
 
 pub bounds-out-at : goal.bounds-out-at
 bounds-out-at c =
-    let s = c in
-    omega (arith, row_ends c.loop-j.j s.args.n (length s.args.secret.now) (length s.args.out.now) (omega arith) s.requires.3)
+    omega (arith, row_ends c.loop-j.j c.args.n (length c.args.secret.now) (length c.args.out.now) (omega arith) c.requires.3)
 
 pub slice_bounds-evaluate_row-end : goal.slice_bounds-evaluate_row-end
 slice_bounds-evaluate_row-end c =
-    let s = c in
     simp length-set
-    (omega (arith, row_ends c.loop-j.j s.args.n (length s.args.secret.now) (length s.args.out.now) (omega arith) s.requires.3))
+    (omega (arith, row_ends c.loop-j.j c.args.n (length c.args.secret.now) (length c.args.out.now) (omega arith) c.requires.3))
 
 pub evaluate_row-requires : goal.evaluate_row-requires
 evaluate_row-requires c =
-    let s = c in
     let l = c.loop-j in
-    let out = set l.out l.at (get_or s.args.ids.now l.j 0) in
-    let ends = row_ends l.j s.args.n (length s.args.secret.now) (length s.args.out.now) (omega arith) s.requires.3 in
+    let out = set l.out l.at (get_or c.args.ids.now l.j 0) in
+    let ends = row_ends l.j c.args.n (length c.args.secret.now) (length c.args.out.now) (omega arith) c.requires.3 in
     record {
-      some = s.requires.1;
-      places = length_part (l.at + 1) (l.at + 1 + length s.args.secret.now) out (omega (arith, ends, length-set l.out l.at (get_or s.args.ids.now l.j 0))) ∙ omega arith;
-      enough = s.requires.2;
+      some = c.requires.1;
+      places = length_part (l.at + 1) (l.at + 1 + length c.args.secret.now) out (omega (arith, ends, length-set l.out l.at (get_or c.args.ids.now l.j 0))) ∙ omega arith;
+      enough = c.requires.2;
     }
 
 pub loop-j-preserved : goal.loop-j-preserved
 loop-j-preserved c =
-    let s = c in
     let l = c.loop-j in
-    let w = length s.args.secret.now in
-    let x = get_or s.args.ids.now l.j 0 in
+    let w = length c.args.secret.now in
+    let x = get_or c.args.ids.now l.j 0 in
     let new = c.evaluate_row in
-    let ends = row_ends l.j s.args.n w (length s.args.out.now) (omega arith) s.requires.3 in (
+    let ends = row_ends l.j c.args.n w (length c.args.out.now) (omega arith) c.requires.3 in (
       omega arith,
       omega (arith, add-mul l.j 1 (w + 1), one-mul (w + 1)),
       same_len_mid (l.at + 1) (l.at + 1 + w - (l.at + 1)) (set l.out l.at x) new.new.vs new.auto.vs ∙ length-set l.out l.at x ∙ l.invariant.2,
-      row_fills s.args.k s.args.secret.now s.args.coefficients.now l.j l.at s.args.ids.now s.args.out.now l.out new.new.vs
-          (omega (arith, s.requires.0)) l.invariant.1 (omega arith) l.invariant.3 new.ensures,
+      row_fills c.args.k c.args.secret.now c.args.coefficients.now l.j l.at c.args.ids.now c.args.out.now l.out new.new.vs
+          (omega (arith, c.requires.0)) l.invariant.1 (omega arith) l.invariant.3 new.ensures,
     )
 
 pub shape_of-out : goal.shape_of-out
@@ -70,9 +64,8 @@ shape_of-out c = c.loop-j.invariant.2
 
 pub returns : goal.returns
 returns c =
-    let s = c in
     let l = c.loop-j in
-    let e : l.j ≡ s.args.n = omega arith in
+    let e : l.j ≡ c.args.n = omega arith in
     l.invariant.3
-    ∙ ap₂ (λ i a. rows_of s.args.k s.args.secret.now s.args.coefficients.now (take i s.args.ids.now) ++ drop a s.args.out.now) e
-    (l.invariant.1 ∙ ap (λ n. split_room n (length s.args.secret.now)) e)
+    ∙ ap₂ (λ i a. rows_of c.args.k c.args.secret.now c.args.coefficients.now (take i c.args.ids.now) ++ drop a c.args.out.now) e
+    (l.invariant.1 ∙ ap (λ n. split_room n (length c.args.secret.now)) e)

@@ -17,4 +17,4 @@ pub returns-then-n-lt10000 : goal.returns-then-n-lt10000
 returns-then-n-lt10000 c = (sym (digits 3 c.args.n c.if-n-lt1000.false c.if-n-lt10000.true), omega arith)
 
 pub returns : goal.returns
-returns c = let s = c in (sym (digits 4 s.args.n c.if-n-lt10000.false s.requires), omega arith)
+returns c = (sym (digits 4 c.args.n c.if-n-lt10000.false c.requires), omega arith)

@@ -20,38 +20,34 @@ loop-i-init c =
 
 pub bounds-rows-at : goal.bounds-rows-at
 bounds-rows-at c =
-    let s = c in
     let l = c.loop-i in
-    omega (arith, row_inside s.args.m (s.args.l + 1) s.args.rows.now l.i c.loop-i-test.true s.requires.3)
+    omega (arith, row_inside c.args.m (c.args.l + 1) c.args.rows.now l.i c.loop-i-test.true c.requires.3)
 
 pub row_length-n-requires : goal.row_length-n-requires
 row_length-n-requires c = c.requires.2
 
 pub overflow_add-n : goal.overflow_add-n
 overflow_add-n c =
-    let s = c in
-    omega (arith, s.requires.1, c.loop-i.invariant.3, c.row_length-n.ensures.1)
+    omega (arith, c.requires.1, c.loop-i.invariant.3, c.row_length-n.ensures.1)
 
 pub overflow_add-at : goal.overflow_add-at
 overflow_add-at c = omega (arith, c.requires.2)
 
 pub overflow_add-at-in-loop-i : goal.overflow_add-at-in-loop-i
 overflow_add-at-in-loop-i c =
-    let s = c in
     let l = c.loop-i in
-    omega (arith, row_inside s.args.m (s.args.l + 1) s.args.rows.now l.i c.loop-i-test.true s.requires.3)
+    omega (arith, row_inside c.args.m (c.args.l + 1) c.args.rows.now l.i c.loop-i-test.true c.requires.3)
 
 pub loop-i-preserved : goal.loop-i-preserved
 loop-i-preserved c =
-    let s = c in
-    let a = s.args in
+    let a = c.args in
     let l = c.loop-i in
     let more = c.loop-i-test.true in
     let row = c.row_length-n.ensures in
     let id = ap (λ k. length (decimal (get_or a.rows.now k 0))) l.invariant.1 in (
       omega arith,
       omega (arith, l.invariant.1),
-      omega (arith, l.invariant.2, row.0, id, line-length a.m (a.l + 1) a.rows.now l.i more a.l refl s.requires.3),
+      omega (arith, l.invariant.2, row.0, id, line-length a.m (a.l + 1) a.rows.now l.i more a.l refl c.requires.3),
       omega (arith, l.invariant.3, row.1),
     )
 

@@ -30,16 +30,15 @@ overflow_add-end c = omega (arith, c.requires)
 
 pub loop-k-preserved : goal.loop-k-preserved
 loop-k-preserved c =
-    let s = c in
     let l = c.loop-k in
-    let vs = s.args.values.now in
-    let room = s.requires in
+    let vs = c.args.values.now in
+    let room = c.requires in
     let h = c.hex_digit in
     let g = c.hex_digit-in-loop-k in (
       omega arith,
       omega arith,
       length-set (set l.out l.end h.result) (l.end + 1) g.result ∙ length-set l.out l.end h.result ∙ l.invariant.2,
-      hex_step vs l.k s.args.at l.end s.args.out.now l.out h.result g.result (omega arith) (omega arith) (omega arith)
+      hex_step vs l.k c.args.at l.end c.args.out.now l.out h.result g.result (omega arith) (omega arith) (omega arith)
           h.ensures g.ensures l.invariant.3,
     )
 
@@ -48,7 +47,6 @@ shape_of-out c = c.loop-k.invariant.2
 
 pub returns : goal.returns
 returns c =
-    let s = c in
     let l = c.loop-k in
-    let vs = s.args.values.now in
-    subst (λ t. Puts (hex t) s.args.at s.args.out.now l.end l.out) (take_all l.k vs (omega arith)) l.invariant.3
+    let vs = c.args.values.now in
+    subst (λ t. Puts (hex t) c.args.at c.args.out.now l.end l.out) (take_all l.k vs (omega arith)) l.invariant.3

@@ -16,6 +16,5 @@ shape_of-out c =
 
 pub returns : goal.returns
 returns c =
-    let s = c in
-    let a = s.args in
-    puts_then (omega (arith, s.requires)) (puts_byte tab a.at a.out.now (omega (arith, s.requires))) c.put_decimal.ensures
+    let a = c.args in
+    puts_then (omega (arith, c.requires)) (puts_byte tab a.at a.out.now (omega (arith, c.requires))) c.put_decimal.ensures

@@ -15,39 +15,34 @@ loop-i-init c = let a = c.args in (omega arith, sym (zero-mul a.w), refl, puts_n
 
 pub overflow_add-q : goal.overflow_add-q
 overflow_add-q c =
-    let s = c in
     let l = c.loop-i in
-    omega (arith, row_inside s.args.m s.args.w s.args.rows.now l.i c.loop-i-test.true s.requires.1)
+    omega (arith, row_inside c.args.m c.args.w c.args.rows.now l.i c.loop-i-test.true c.requires.1)
 
 pub slice_bounds-put_row-end : goal.slice_bounds-put_row-end
 slice_bounds-put_row-end c =
-    let s = c in
     let l = c.loop-i in
-    omega (arith, row_inside s.args.m s.args.w s.args.rows.now l.i c.loop-i-test.true s.requires.1)
+    omega (arith, row_inside c.args.m c.args.w c.args.rows.now l.i c.loop-i-test.true c.requires.1)
 
 pub put_row-end-requires : goal.put_row-end-requires
 put_row-end-requires c =
-    let s = c in
-    let a = s.args in
+    let a = c.args in
     let l = c.loop-i in
     let more = c.loop-i-test.true in
     subst (λ r. (0 < length r) × (l.end + length (row_line r) ≤ length l.out)) (sym (lent_row l.i a.w l.p a.rows.now l.invariant.1)) (
-      row-some a.m a.w a.rows.now l.i more s.requires.1 s.requires.0,
-      row_fits a.m a.w a.rows.now l.i more a.at l.end l.out (omega (arith, s.requires.2, l.invariant.2)) l.invariant.3.ends,
+      row-some a.m a.w a.rows.now l.i more c.requires.1 c.requires.0,
+      row_fits a.m a.w a.rows.now l.i more a.at l.end l.out (omega (arith, c.requires.2, l.invariant.2)) l.invariant.3.ends,
     )
 
 pub loop-i-preserved : goal.loop-i-preserved
 loop-i-preserved c =
-    let called = c in
-    let l = called.loop-i in
-    let s = called in
-    let a = s.args in
-    let r = called.put_row-end in
+    let l = c.loop-i in
+    let a = c.args in
+    let r = c.put_row-end in
     let line = subst (λ x. Puts (row_line x) l.end l.out r.result r.new.out) (lent_row l.i a.w l.p a.rows.now l.invariant.1) r.ensures in (
       omega arith,
       omega arith,
       r.auto.out ∙ l.invariant.2,
-      rows_step l.i a.w a.at l.end r.result a.rows.now a.out.now l.out r.new.out (omega (arith, s.requires.2)) l.invariant.3 line,
+      rows_step l.i a.w a.at l.end r.result a.rows.now a.out.now l.out r.new.out (omega (arith, c.requires.2)) l.invariant.3 line,
     )
 
 pub shape_of-out : goal.shape_of-out

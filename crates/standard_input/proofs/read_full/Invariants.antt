@@ -1,7 +1,7 @@
 -- `read_full` meets its contract: what was read lies within the buffer, whose length stays, and each turn leaves less to fill.
 use Prim.Native.Nat.{◌-◌, ◌≤◌}
 use lib.ListN.{length}
-use Rattle.replay.proofs.read_full.Given as goal
+use Rattle.standard_input.proofs.read_full.Given as goal
 
 abbrev pub invariant-loop-done : goal.invariant-loop-done
 invariant-loop-done g l = l.done ≤ length l.buf

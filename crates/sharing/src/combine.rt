@@ -6,7 +6,8 @@ ghost use Rattle.sharing.specs.Combine.{Combines, CombinesAccepted};
 ghost use Rattle.sharing.specs.ByteLengths.{CombinesByByteLengths};
 
 use answer::Reason;
-use row_set::{judge_rows, judge_rows_by_byte_lengths};
+use row_set::{judge_rows, readable_lengths};
+use rows::Length;
 
 // Of m accepted rows with l values each.
 fn combine_accepted(rows: &[u8], m: usize, l: usize, out: &mut [u8]) -> Result<usize, Reason>
@@ -21,8 +22,8 @@ fn combine_accepted(rows: &[u8], m: usize, l: usize, out: &mut [u8]) -> Result<u
 }
 
 // The secret of rows that lie one after another and have these lengths.
-pub fn combine_bytes(rows: &[u8], lengths: &[u32], out: &mut [u8]) -> Result<usize, Reason>
-    ensures { Combines rows.now lengths.now out.old (answer_of result) out.new }
+pub fn combine_bytes<T: Length>(rows: &[u8], lengths: &[T], out: &mut [u8]) -> Result<usize, Reason>
+    ensures { Combines rows.now (T.lengths lengths.now) out.old (answer_of result) out.new }
 {
     let l = judge_rows(rows, lengths, 1)?;
     combine_accepted(rows, lengths.len(), l, out)
@@ -36,6 +37,5 @@ pub fn combine_bytes_by_byte_lengths(
 ) -> Result<usize, Reason>
     ensures { CombinesByByteLengths rows.now lengths.now out.old (answer_of result) out.new }
 {
-    let l = judge_rows_by_byte_lengths(rows, lengths, 1)?;
-    combine_accepted(rows, lengths.len() / 4, l, out)
+    combine_bytes(rows, readable_lengths(lengths)?, out)
 }

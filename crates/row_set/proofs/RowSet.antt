@@ -7,7 +7,7 @@ use Prim.Native.Nat.{ℕ, ◌+◌, ◌*◌, ◌-◌, ◌/◌, ◌%◌, ◌<◌, 
 use native.Mathlib.Omega.{arith}
 use lib.Dec.{eqb, ltb}
 use lib.ListN.{length, replicate}
-use borrow.Author.Tests.{eq-eqb, ne_eqb, eqb-true, lt-ltb, le-ltb, ltb-false, not-false}
+use borrow.Author.Tests.{eq-eqb, eqb-true, lt-ltb, le-ltb, ltb-false, not-false}
 use Rattle.answer.specs.Outcome.{Outcome, done, refused, refuse}
 use Rattle.rows.specs.Search.{sum, all_are, first_zero, first_repeated, first_repeating, within}
 use Rattle.strides.specs.Strides.{strided}
@@ -110,22 +110,14 @@ module _ (s : List ℕ) (w m : ℕ) where
 
 -- ---- lengths that come as bytes
 
-module _ (enough : ℕ) (s bytes : List ℕ) (later : Outcome) where
-  cannot_read : unreadable bytes ≡ true → refused 13 0 0 ≡ judged_byte_lengths enough s bytes later
-  cannot_read h = sym (ap (λ b. refuse b (refused 13 0 0) (judged_rows enough s (lengths_of bytes) later)) h)
+pub fours-test : (bytes : List ℕ) → length bytes % 4 ≡ 0 → (b : Bool) → ltb max_rows (length bytes / 4) ≡ b → unreadable bytes ≡ b
+fours-test bytes fours b h = ap (λ t. not t || ltb max_rows (length bytes / 4)) (eq-eqb (length bytes % 4) 0 fours) ∙ h
 
-  pub not_fours : (length bytes % 4 ≡ 0 → ⊥) → refused 13 0 0 ≡ judged_byte_lengths enough s bytes later
-  not_fours h = cannot_read (ap (λ b. not b || ltb max_rows (length bytes / 4)) (ne_eqb (length bytes % 4) 0 h))
-
-  module _ (fours : length bytes % 4 ≡ 0) where
-    test : (b : Bool) → ltb max_rows (length bytes / 4) ≡ b → unreadable bytes ≡ b
-    test b h = ap (λ t. not t || ltb max_rows (length bytes / 4)) (eq-eqb (length bytes % 4) 0 fours) ∙ h
-
-    pub too_many : max_rows < length bytes / 4 → refused 13 0 0 ≡ judged_byte_lengths enough s bytes later
-    too_many h = cannot_read (test true (lt-ltb max_rows (length bytes / 4) h))
-
-    pub by_lengths : {o : Outcome} → length bytes / 4 ≤ max_rows → o ≡ judged_rows enough s (lengths_of bytes) later → o ≡ judged_byte_lengths enough s bytes later
-    by_lengths h e = e ∙ sym (ap (λ b. refuse b (refused 13 0 0) (judged_rows enough s (lengths_of bytes) later)) (test false (le-ltb max_rows (length bytes / 4) h)))
+-- where they can be read, the checks are those of the lengths that they make
+pub by_lengths : (enough : ℕ) (s bytes : List ℕ) (later : Outcome) → length bytes % 4 ≡ 0 → {o : Outcome} → length bytes / 4 ≤ max_rows → o ≡ judged_rows enough s (lengths_of bytes) later
+    → o ≡ judged_byte_lengths enough s bytes later
+by_lengths enough s bytes later fours h e =
+    e ∙ sym (ap (λ b. refuse b (refused 13 0 0) (judged_rows enough s (lengths_of bytes) later)) (fours-test bytes fours false (le-ltb max_rows (length bytes / 4) h)))
 
 -- lengths that can be read are whole fours, and not too many
 pub readable : (bytes : List ℕ) → unreadable bytes ≡ false → (length bytes % 4 ≡ 0) × (length bytes / 4 ≤ max_rows)

@@ -1,54 +1,63 @@
 -- Row lengths one by one: a turn of the loops that read them, whichever way they are stored, and how they are stored as bytes.
 -- Assumes nothing.
-use mathlib.Core.Path.{◌≡◌, refl, sym, ap, ◌∙◌}
-use mathlib.Core.Bool.{true, false, ◌&&◌}
-use mathlib.Core.List.{List}
-use Prim.Native.Nat.{ℕ, zero, suc, ◌+◌, ◌*◌, ◌-◌, ◌/◌, ◌<◌, ◌≤◌}
+use mathlib.Core.Path.{◌≡◌, refl, sym, ap, ap₂, ◌∙◌}
+use mathlib.Core.Bool.{Bool, true, false, ◌&&◌, and-false}
+use mathlib.Core.List.{List, [], ◌∷◌, map}
+use Prim.Native.Nat.{ℕ, zero, suc, ◌+◌, ◌-◌, ◌/◌, ◌<◌, ◌≤◌}
 use native.Mathlib.Numerals.{add-one}
 use native.Mathlib.Omega.{arith}
 use lib.Dec.{eqb}
-use lib.ListN.{length, get_or, drop, drop_of_length-le}
-use lib.Seq.{drop-cons, get_or-drop}
+use lib.ListN.{length, get_or, drop, length-map}
+use lib.Seq.{drop-cons}
 use borrow.Author.Tests.{eq-eqb, ne_eqb}
 use Rattle.rows.specs.Search.{sum, all_are}
-use Rattle.rows.specs.Lengths.{four, fours, lengths_of}
+use Rattle.std.proofs.Common.{lit<}
+use Rattle.std.proofs.lemmas.List.{get_or-take, get_or-map}
+use Rattle.std.specs.Bool.{MatchBool}
+use Rattle.std.specs.List.{All, AllWithin, HoldsAt}
+use Rattle.std.specs.Simd.{first_chunks}
+use Rattle.rows.specs.Lengths.{four_of, fours, lengths_of}
 
 -- the first i lengths are taken off n, and rest is left
 abbrev pub Left : List ℕ → ℕ → ℕ → ℕ → Type 0
 Left ns n i rest = rest + sum ns ≡ n + sum (drop i ns)
 
-rest-zero : (r s n : ℕ) → r + s ≡ n → eqb r 0 ≡ eqb s n
-rest-zero zero s n e = sym (eq-eqb s n (omega arith))
-rest-zero (suc r) s n e = ne_eqb (suc r) 0 (λ z. omega arith) ∙ sym (ne_eqb s n (λ z. omega arith))
+module _ (ns : List ℕ) (i l : ℕ) (k : i < length ns) (e : l ≡ get_or ns i 0) where
+  sum_drop : sum (drop i ns) ≡ l + sum (drop (i + 1) ns)
+  sum_drop = rw (e, add-one, drop-cons ns i 0)
 
-module _ (ns : List ℕ) (i : ℕ) where
-  pub left_all : (n rest : ℕ) → Left ns n i rest → length ns ≤ i → eqb rest 0 ≡ eqb (sum ns) n
-  left_all n rest h k =
-      let e : sum (drop i ns) ≡ 0 = ap sum (drop_of_length-le ns k) in
-      rest-zero rest (sum ns) n (omega arith)
+  pub left_less : (n rest : ℕ) → Left ns n i rest → rest < l → false ≡ eqb (sum ns) n
+  left_less n rest h s = sym (ne_eqb (sum ns) n (λ z. omega (arith, sum_drop)))
 
-  module _ (l : ℕ) (k : i < length ns) (e : l ≡ get_or ns i 0) where
-    sum_drop : sum (drop i ns) ≡ l + sum (drop (i + 1) ns)
-    sum_drop = rw (e, add-one, drop-cons ns i 0)
+  pub left_next : (n rest : ℕ) → Left ns n i rest → l ≤ rest → Left ns n (i + 1) (rest - l)
+  left_next n rest h s = omega (arith, sum_drop)
 
-    pub left_less : (n rest : ℕ) → Left ns n i rest → rest < l → false ≡ eqb (sum ns) n
-    left_less n rest h s = sym (ne_eqb (sum ns) n (λ z. omega (arith, sum_drop)))
+-- what lengths say is as long a list ..
+pub as_long : {X : Type 0} (v : X → ℕ) (xs : List X) (ns : List ℕ) → ns ≡ map v xs → length ns ≡ length xs
+as_long v xs ns e = ap length e ∙ length-map xs v
 
-    pub left_next : (n rest : ℕ) → Left ns n i rest → l ≤ rest → Left ns n (i + 1) (rest - l)
-    left_next n rest h s = omega (arith, sum_drop)
+-- .. in which each stands at its place
+pub said : {X : Type 0} (v : X → ℕ) (xs : List X) (ns : List ℕ) (i l : ℕ) (x : X) → ns ≡ map v xs → i < length xs → x ≡ get_or xs i x → l ≡ v x
+    → (i < length ns) × (l ≡ get_or ns i 0)
+said v xs ns i l x e h at el =
+    let long = as_long v xs ns e in
+    (omega arith, el ∙ ap v at ∙ sym (get_or-map v xs i x 0 h) ∙ ap (λ n. get_or n i 0) (sym e))
 
-    module _ (w : ℕ) (h : all_are w (drop i ns) ≡ all_are w ns) where
-      are_drop : all_are w ns ≡ (eqb l w && all_are w (drop (i + 1) ns))
-      are_drop = sym h ∙ rw (e, add-one, drop-cons ns i 0)
+-- whether each is w, from what is known of each, or of one
+module _ {X : Type 0} (v : X → ℕ) (w : ℕ) where
+  each_is : (xs : List X) → All (λ x. v x ≡ w) xs → all_are w (map v xs) ≡ true
+  each_is [] h = refl
+  each_is (x ∷ xs) h = ap₂ ◌&&◌ (eq-eqb (v x) w (h 0 x (omega arith))) (each_is xs (λ k d l. h (suc k) d (omega arith)))
 
-      pub same : l ≡ w → all_are w (drop (i + 1) ns) ≡ all_are w ns
-      same s = sym (are_drop ∙ ap (◌&& all_are w (drop (i + 1) ns)) (eq-eqb l w s))
+  one_other : (xs : List X) (k : ℕ) → k < length xs → HoldsAt (λ x. v x ≡ w → ⊥) xs k → all_are w (map v xs) ≡ false
+  one_other [] k l h = absurd (omega arith)
+  one_other (x ∷ xs) zero l h = ap (◌&& all_are w (map v xs)) (ne_eqb (v x) w (h x))
+  one_other (x ∷ xs) (suc k) l h = ap (eqb (v x) w &&◌) (one_other xs k (omega arith) (λ d. h d)) ∙ and-false (eqb (v x) w)
 
-      pub other : (l ≡ w → ⊥) → false ≡ all_are w ns
-      other s = sym (are_drop ∙ ap (◌&& all_are w (drop (i + 1) ns)) (ne_eqb l w s))
-
-  pub are_all : (w : ℕ) → all_are w (drop i ns) ≡ all_are w ns → length ns ≤ i → true ≡ all_are w ns
-  are_all w h k = sym (ap (all_are w) (drop_of_length-le ns k)) ∙ h
+  pub are_told : (xs : List X) (r : Bool) → MatchBool r (AllWithin (λ x. v x ≡ w) xs 0 (length xs)) ((k : ℕ) × (k < length xs) × HoldsAt (λ x. v x ≡ w → ⊥) xs k)
+      → r ≡ all_are w (map v xs)
+  are_told xs true h = sym (each_is xs (λ k d l. h k d (omega arith) l))
+  are_told xs false h = sym (one_other xs h.0 h.1 h.2)
 
 -- ---- as bytes
 
@@ -60,23 +69,14 @@ pub length-lengths : (bytes : List ℕ) → length (lengths_of bytes) ≡ length
 unfolding lengths_of
 length-lengths bytes = length-fours (length bytes / 4) bytes
 
--- the four bytes from a place on
-abbrev four_at : List ℕ → ℕ → ℕ
-four_at bytes at = four (get_or bytes at 0) (get_or bytes (at + 1) 0) (get_or bytes (at + 2) 0) (get_or bytes (at + 3) 0)
+-- the first m fours, as arrays
+chunks : (m : ℕ) (bytes : List ℕ) → map four_of (first_chunks 4 m bytes) ≡ fours m bytes
+chunks zero bytes = refl
+chunks (suc m) bytes =
+    ap₂ ◌∷◌
+    (simp (get_or-take 4 bytes 0 0 (lit< tt), get_or-take 4 bytes 1 0 (lit< tt), get_or-take 4 bytes 2 0 (lit< tt), get_or-take 4 bytes 3 0 (lit< tt)))
+    (chunks m (drop 4 bytes))
 
-four-drop : (bytes : List ℕ) (n at k : ℕ) → n + at ≡ k → four_at (drop n bytes) at ≡ four_at bytes k
-four-drop bytes n at k e =
-    let e₁ : n + (at + 1) ≡ k + 1 = omega arith in
-    let e₂ : n + (at + 2) ≡ k + 2 = omega arith in
-    let e₃ : n + (at + 3) ≡ k + 3 = omega arith in
-    simp (get_or-drop, e, e₁, e₂, e₃)
-
-fours_at : (m i : ℕ) (bytes : List ℕ) → i < m → get_or (fours m bytes) i 0 ≡ four_at bytes (i * 4)
-fours_at zero i bytes h = absurd (omega arith)
-fours_at (suc m) zero bytes h = refl
-fours_at (suc m) (suc i) bytes h = fours_at m i (drop 4 bytes) (omega arith) ∙ four-drop bytes 4 (i * 4) (suc i * 4) (omega arith)
-
-pub length_is : (bytes : List ℕ) (i : ℕ) → i * 4 + 4 ≤ length bytes
-    → four (get_or bytes (i * 4) 0) (get_or bytes (i * 4 + 1) 0) (get_or bytes (i * 4 + 2) 0) (get_or bytes (i * 4 + 3) 0) ≡ get_or (lengths_of bytes) i 0
+pub chunks_are : (bytes : List ℕ) → map four_of (first_chunks 4 (length bytes / 4) bytes) ≡ lengths_of bytes
 unfolding lengths_of
-length_is bytes i h = sym (fours_at (length bytes / 4) i bytes (omega arith))
+chunks_are bytes = chunks (length bytes / 4) bytes

@@ -1,10 +1,16 @@
 -- Row lengths that come as bytes, four a row, least first.
 -- Assumes nothing.
+use mathlib.Core.Path.{◌≡◌, refl, ap}
+use mathlib.Core.List.{map}
 use Rattle.std.specs.Prelude.{List, [], ◌∷◌, ◌++◌, ℕ, zero, suc, ◌+◌, ◌*◌, ◌/◌, ◌%◌, ◌^◌, length, get_or, drop}
 
 -- the number that four bytes make
 abbrev pub four : ℕ → ℕ → ℕ → ℕ → ℕ
 four a b c d = a + b * 2 ^ 8 + c * 2 ^ 16 + d * 2 ^ 24
+
+-- .. as a list of four
+abbrev pub four_of : List ℕ → ℕ
+four_of bytes = four (get_or bytes 0 0) (get_or bytes 1 0) (get_or bytes 2 0) (get_or bytes 3 0)
 
 -- the four bytes of a number, least first
 abbrev pub four_bytes : ℕ → List ℕ
@@ -23,3 +29,8 @@ fours (suc m) bytes = four (get_or bytes 0 0) (get_or bytes 1 0) (get_or bytes 2
 -- of as many fours as are whole
 unfoldable pub lengths_of : List ℕ → List ℕ
 lengths_of bytes = fours (length bytes / 4) bytes
+
+-- numbers are the lengths that they are
+pub unchanged : (ns : List ℕ) → ns ≡ map (λ n. n) ns
+unchanged [] = refl
+unchanged (n ∷ ns) = ap (n ∷◌) (unchanged ns)

@@ -1,7 +1,7 @@
 // Checks of rows that lie one after another in flat storage, and the secret that they share.
 #![tactic(auto)]
 
-ghost use Rattle.std.specs.Prelude.{◌≡◌, true, cond, ◌+◌, ◌*◌, ◌<◌, ◌≤◌, eqb, length, get_or, drop, replicate};
+ghost use Rattle.std.specs.Prelude.{◌≡◌, ℕ, List, refl, true, cond, ◌+◌, ◌*◌, ◌<◌, ◌≤◌, eqb, length, drop, replicate};
 ghost use mathlib.Core.List.{foldr, map, zip_with};
 ghost use Rattle.std.specs.Int.Bits.{bit_xor};
 ghost use Rattle.gf256.specs.Field256.{mul256, inv256, gf256};
@@ -11,7 +11,7 @@ ghost use Rattle.shamir.specs.Rows.{combined};
 ghost use Rattle.rows.specs.Search.{sum, all_are, place_of, first_repeated, first_repeating};
 ghost use Rattle.strides.specs.Strides.{strided};
 ghost use Rattle.rows.specs.Storage.{cut, values};
-ghost use Rattle.rows.specs.Lengths.{four, lengths_of};
+ghost use Rattle.rows.specs.Lengths.{four_of, lengths_of, unchanged};
 ghost use Rattle.rows.specs.Combining.{Ready, plus_times, plus_rows};
 
 // Bytes, and those that identifiers can be: all but 0.
@@ -19,85 +19,70 @@ const BYTES: usize = 256;
 
 const IDENTIFIERS: usize = BYTES - 1;
 
+// The length of a row: a number, or four bytes of one, least first.
+pub trait Length: Copy {
+    // What it says, and what a list of lengths says.
+    ghost value: { Self → ℕ };
+
+    ghost lengths: { List Self → List ℕ };
+
+    fn value(self) -> u32
+        ensures { result ≡ value self };
+
+    ghost each: { (ls : List Self) → lengths ls ≡ map value ls };
+}
+
+impl Length for u32 {
+    ghost value = { λ n. n };
+
+    ghost lengths = { λ ns. ns };
+
+    ghost each = { unchanged };
+
+    fn value(self) -> u32 {
+        self
+    }
+}
+
+impl Length for [u8; 4] {
+    ghost value = { four_of };
+
+    ghost lengths = { map four_of };
+
+    ghost each = { λ ls. refl };
+
+    fn value(self) -> u32 {
+        u32::from_le_bytes(self)
+    }
+}
+
 // Whether the lengths sum to n. They are taken off n one by one, so that no sum grows beyond it.
-pub fn sums_to(lengths: &[u32], n: usize) -> bool
-    ensures { result ≡ eqb (sum lengths.now) n }
+pub fn sums_to<T: Length>(lengths: &[T], n: usize) -> bool
+    ensures { result ≡ eqb (sum (T.lengths lengths.now)) n }
 {
     let mut rest = n;
-    let mut i = 0;
-    while i < lengths.len() {
-        let l = lengths[i] as usize;
+    for given in lengths {
+        let l = given.value() as usize;
         if rest < l {
             return false;
         }
         rest -= l;
-        i += 1;
     }
     rest == 0
 }
 
 // Whether each length is w.
-pub fn all_are(lengths: &[u32], w: u32) -> bool
-    ensures { result ≡ all_are w lengths.now }
+pub fn all_are<T: Length>(lengths: &[T], w: u32) -> bool
+    ensures { result ≡ all_are w (T.lengths lengths.now) }
 {
-    let mut i = 0;
-    while i < lengths.len() {
-        if lengths[i] != w {
-            return false;
-        }
-        i += 1;
-    }
-    true
+    lengths.iter().all(|l| l.value() == w)
 }
 
-// The number of four bytes, least first.
-fn little(a: u8, b: u8, c: u8, d: u8) -> u32
-    ensures { result ≡ four a b c d }
+// The lengths that come as bytes, four a row, as many as are whole. They are read where they lie, which spares a list of them.
+pub fn byte_lengths(bytes: &[u8]) -> &[[u8; 4]]
+    ensures { map four_of result.now ≡ lengths_of bytes.now }
 {
-    (a as u32) + (b as u32) * 256 + (c as u32) * 65536 + (d as u32) * 16777216
-}
-
-// The length of row i where lengths come as bytes, four a row. Reading it where it is wanted spares a list of all of them.
-pub fn length_at(bytes: &[u8], i: usize) -> u32
-    requires { i * 4 + 4 ≤ length bytes.now }
-    ensures { result ≡ get_or (lengths_of bytes.now) i 0 }
-{
-    let at = i * 4;
-    little(bytes[at], bytes[at + 1], bytes[at + 2], bytes[at + 3])
-}
-
-// As sums_to, of lengths that come as bytes.
-pub fn byte_lengths_sum_to(bytes: &[u8], n: usize) -> bool
-    ensures { result ≡ eqb (sum (lengths_of bytes.now)) n }
-{
-    let m = bytes.len() / 4;
-    let mut rest = n;
-    let mut i = 0;
-    while i < m {
-        let l = length_at(bytes, i) as usize;
-        if rest < l {
-            return false;
-        }
-        rest -= l;
-        i += 1;
-    }
-    rest == 0
-}
-
-// As all_are, of lengths that come as bytes.
-pub fn byte_lengths_are(bytes: &[u8], w: u32) -> bool
-    ensures { result ≡ all_are w (lengths_of bytes.now) }
-{
-    let m = bytes.len() / 4;
-    let mut i = 0;
-    while i < m {
-        let l = length_at(bytes, i);
-        if l != w {
-            return false;
-        }
-        i += 1;
-    }
-    true
+    bytes.as_chunks().0
 }
 
 // Of m rows of w bytes, the first from a place on whose identifier is x; m where there is none.

@@ -1,18 +1,17 @@
--- `combine_bytes_by_byte_lengths` meets its contract: what the checks refuse is refused, and accepted rows are combined.
-use mathlib.Core.Path.{sym, ◌∙◌}
-use Rattle.row_set.proofs.Chains.{told-done, told-refused}
-use Rattle.row_set.proofs.RowSet.{accepted-bytes}
+-- `combine_bytes_by_byte_lengths` meets its contract: bytes that make no lengths are refused, and others are combined by those that
+-- they make.
+use Rattle.std.proofs.lemmas.Result.{err_from_is_err_and}
 use Rattle.sharing.proofs.CombineAccepted.{refuses-bytes, combines_bytes}
 use Rattle.sharing.proofs.combine.combine_bytes_by_byte_lengths.Goals as goal
 
-pub returns-in_default : goal.returns-in_default
-returns-in_default c =
-    refuses-bytes c.args.rows.now c.args.lengths.now c.args.out.now (told-refused c.in_default.is) c.judge_rows_by_byte_lengths-judged.ensures
-
-pub combine_accepted-requires : goal.combine_accepted-requires
-combine_accepted-requires c =
-    (accepted-bytes 2 c.args.rows.now c.args.lengths.now _ (sym c.judge_rows_by_byte_lengths-judged.ensures ∙ told-done c.in-Done.is)).ready
+pub returns-in_err-readable_lengths : goal.returns-in_err-readable_lengths
+returns-in_err-readable_lengths c =
+    let a = c.args in
+    let p = err_from_is_err_and c.from_residual.result c.from_residual.ensures.1 in
+    rw (p.1, p.2) (refuses-bytes a.rows.now a.lengths.now a.out.now c.in_err-readable_lengths.ensures.0 c.in_err-readable_lengths.ensures.1)
 
 pub returns : goal.returns
 returns c =
-    combines_bytes c.args.rows.now c.args.lengths.now c.args.out.now (sym c.judge_rows_by_byte_lengths-judged.ensures ∙ told-done c.in-Done.is) c.combine_accepted.ensures
+    let a = c.args in
+    let read = c.in_ok-readable_lengths.ensures in
+    combines_bytes a.rows.now a.lengths.now a.out.now read.0 read.1 c.combine_bytes.ensures

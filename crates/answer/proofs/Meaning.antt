@@ -6,8 +6,7 @@ use Prim.Native.Nat.{ℕ}
 use lib.ListN.{get_or}
 use Rattle.answer.specs.Outcome.{Outcome, done, refused, number_of, first_of, second_of}
 use Rattle.answer.specs.Answers.{reason_of, answer_of, MeaningTells}
-use Rattle.answer.specs.declared.Answer.{Answer}
-use Rattle.answer.specs.declared.Answer.TheVariants.{Done, Refused}
+use Rattle.std.specs.Prelude.{Result, Ok, Err}
 use Rattle.answer.specs.declared.Reason.{Reason}
 use Rattle.answer.specs.declared.Reason.TheVariants.{InvalidSizeRequest, InvalidSecret, SharingLimitLessThanThreshold, SharingMinThreshold, NotEnoughShareIdentifiers, SharingInvalidIdentifier, SharingDuplicateIdentifier, InvalidShare, InvalidShareElement, TooLong, CoefficientCount, NoRoom, RowLengths, InvalidSheet}
 
@@ -17,11 +16,11 @@ table i j =
     RowLengths ∷ InvalidSizeRequest ∷ InvalidSecret ∷ SharingLimitLessThanThreshold ∷ SharingMinThreshold ∷ NotEnoughShareIdentifiers
     ∷ SharingInvalidIdentifier i ∷ SharingDuplicateIdentifier i j ∷ InvalidShare ∷ InvalidShareElement ∷ TooLong ∷ CoefficientCount ∷ NoRoom ∷ RowLengths ∷ InvalidSheet i ∷ []
 
-abbrev back : Outcome → Answer
-back (done count) = Done count
-back (refused number i j) = Refused (get_or (table i j) number RowLengths)
+abbrev back : Outcome → Result ℕ Reason
+back (done count) = Ok count
+back (refused number i j) = Err (get_or (table i j) number RowLengths)
 
-back_reason : (r : Reason) → back (reason_of r) ≡ Refused r
+back_reason : (r : Reason) → back (reason_of r) ≡ Err r
 back_reason InvalidSizeRequest = refl
 back_reason InvalidSecret = refl
 back_reason SharingLimitLessThanThreshold = refl
@@ -37,9 +36,9 @@ back_reason NoRoom = refl
 back_reason RowLengths = refl
 back_reason (InvalidSheet k) = refl
 
-back_answer : (a : Answer) → back (answer_of a) ≡ a
-back_answer (Done count) = refl
-back_answer (Refused r) = back_reason r
+back_answer : (a : Result ℕ Reason) → back (answer_of a) ≡ a
+back_answer (Ok count) = refl
+back_answer (Err r) = back_reason r
 
 pub told : MeaningTells
 told a b e = sym (back_answer a) ∙ ap back e ∙ back_answer b

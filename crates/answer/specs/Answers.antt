@@ -1,9 +1,7 @@
 -- What each answer of the code means in document 01: the number of its row in the table of refusals, and the places inside it.
 -- Assumes nothing.
-use Rattle.std.specs.Prelude.{◌≡◌}
+use Rattle.std.specs.Prelude.{◌≡◌, ℕ, Result, Ok, Err}
 use Rattle.answer.specs.Outcome.{Outcome, done, refused}
-use Rattle.answer.specs.declared.Answer.{Answer}
-use Rattle.answer.specs.declared.Answer.TheVariants.{Done, Refused}
 use Rattle.answer.specs.declared.Reason.{Reason}
 use Rattle.answer.specs.declared.Reason.TheVariants.{InvalidSizeRequest, InvalidSecret, SharingLimitLessThanThreshold, SharingMinThreshold, NotEnoughShareIdentifiers, SharingInvalidIdentifier, SharingDuplicateIdentifier, InvalidShare, InvalidShareElement, TooLong, CoefficientCount, NoRoom, RowLengths, InvalidSheet}
 
@@ -25,10 +23,10 @@ reason_of RowLengths = refused 13 0 0
 reason_of (InvalidSheet k) = refused 14 k 0
 
 -- an answer is done with its count, or refused for its reason
-abbrev pub answer_of : Answer → Outcome
-answer_of (Done count) = done count
-answer_of (Refused reason) = reason_of reason
+abbrev pub answer_of : Result ℕ Reason → Outcome
+answer_of (Ok count) = done count
+answer_of (Err reason) = reason_of reason
 
 -- Promises say what an answer means and leave it to this that they say which answer it is: two answers that mean the same are equal.
 abbrev pub MeaningTells : Type 0
-MeaningTells = (a b : Answer) → answer_of a ≡ answer_of b → a ≡ b
+MeaningTells = (a b : Result ℕ Reason) → answer_of a ≡ answer_of b → a ≡ b

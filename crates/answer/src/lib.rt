@@ -1,4 +1,5 @@
-// What the functions of this library answer: done with a count, or refused for a reason of document 01's table, or of 02's after it.
+// Why the functions of this library refuse: the reasons of document 01's table, and of 02's after it. They answer with a
+// Result: Ok with a count, or Err with a reason.
 #![tactic(auto)]
 
 ghost use Rattle.std.specs.Prelude.{◌≡◌};
@@ -6,7 +7,7 @@ ghost use Rattle.answer.specs.Outcome.{number_of, first_of, second_of};
 ghost use Rattle.answer.specs.Answers.{reason_of};
 
 // The reasons in the table's order, numbers 1 to 14, with the places inside.
-#[derive(Clone, Copy)]
+#[derive(Clone, Copy, Debug, PartialEq, Eq)]
 pub enum Reason {
     InvalidSizeRequest,
     InvalidSecret,
@@ -25,12 +26,6 @@ pub enum Reason {
     RowLengths,
     // The line.
     InvalidSheet(usize),
-}
-
-#[derive(Clone, Copy)]
-pub enum Answer {
-    Done(usize),
-    Refused(Reason),
 }
 
 impl Reason {
@@ -61,20 +56,10 @@ impl Reason {
         ensures { result ≡ first_of (reason_of self) }
     {
         match self {
-            Reason::InvalidSizeRequest => 0,
-            Reason::InvalidSecret => 0,
-            Reason::SharingLimitLessThanThreshold => 0,
-            Reason::SharingMinThreshold => 0,
-            Reason::NotEnoughShareIdentifiers => 0,
             Reason::SharingInvalidIdentifier(i) => i,
             Reason::SharingDuplicateIdentifier(i, _) => i,
-            Reason::InvalidShare => 0,
-            Reason::InvalidShareElement => 0,
-            Reason::TooLong => 0,
-            Reason::CoefficientCount => 0,
-            Reason::NoRoom => 0,
-            Reason::RowLengths => 0,
             Reason::InvalidSheet(k) => k,
+            _ => 0,
         }
     }
 
@@ -83,20 +68,8 @@ impl Reason {
         ensures { result ≡ second_of (reason_of self) }
     {
         match self {
-            Reason::InvalidSizeRequest => 0,
-            Reason::InvalidSecret => 0,
-            Reason::SharingLimitLessThanThreshold => 0,
-            Reason::SharingMinThreshold => 0,
-            Reason::NotEnoughShareIdentifiers => 0,
-            Reason::SharingInvalidIdentifier(_) => 0,
             Reason::SharingDuplicateIdentifier(_, j) => j,
-            Reason::InvalidShare => 0,
-            Reason::InvalidShareElement => 0,
-            Reason::TooLong => 0,
-            Reason::CoefficientCount => 0,
-            Reason::NoRoom => 0,
-            Reason::RowLengths => 0,
-            Reason::InvalidSheet(_) => 0,
+            _ => 0,
         }
     }
 }

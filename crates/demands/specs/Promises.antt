@@ -1,9 +1,9 @@
 -- What the promises of split and combine leave open, which is nothing, and what they shut out.
 -- Assumes nothing.
-use Rattle.std.specs.Prelude.{◌≡◌, List, [], ◌∷◌, ℕ, length}
+use Rattle.std.specs.Prelude.{◌≡◌, List, [], ◌∷◌, ℕ, Result, length}
 use Rattle.answer.specs.Outcome.{Outcome, done, refused}
 use Rattle.answer.specs.Answers.{answer_of}
-use Rattle.answer.specs.declared.Answer.{Answer}
+use Rattle.answer.specs.declared.Reason.{Reason}
 use Rattle.rows.specs.Lengths.{lengths_of}
 use Rattle.rows.specs.Storage.{cut, identifiers}
 use Rattle.sharing.specs.Split.{Splits}
@@ -13,7 +13,7 @@ use Rattle.sharing.specs.ByteLengths.{CombinesByByteLengths}
 -- Determined: two answers and outputs that a promise allows for one call are the same.
 abbrev pub Same : (Outcome → List ℕ → Type 0) → Type 0
 Same Promise =
-    (a b : Answer) (left right : List ℕ) → Promise (answer_of a) left → Promise (answer_of b) right → (a ≡ b) × (left ≡ right)
+    (a b : Result ℕ Reason) (left right : List ℕ) → Promise (answer_of a) left → Promise (answer_of b) right → (a ≡ b) × (left ≡ right)
 
 pub record Determined : Type 0 where
   pub split : (t n : ℕ) (secret ids coefficients out : List ℕ) → Same (Splits t n secret ids coefficients out)

@@ -67,13 +67,6 @@ pub fn gf256_inverse(a: u8) -> u8
 #[derive(Clone, Copy)]
 pub struct Gf256(pub u8);
 
-// An element, or why there is none.
-#[derive(Clone, Copy)]
-pub enum Gf256Answer {
-    Done(Gf256),
-    Refused(Reason),
-}
-
 impl Gf256 {
     pub const ZERO: Gf256 = Gf256(0);
 
@@ -134,23 +127,23 @@ impl Gf256 {
         util::ct_is_zero_u8(self.0)
     }
 
-    pub fn invert(self) -> Gf256Answer
+    pub fn invert(self) -> Result<Gf256, Reason>
         ensures { gf256_answer_of result ≡ inverse_outcome self.0 }
     {
         if self.0 == 0 {
-            Gf256Answer::Refused(Reason::InvalidShareElement)
+            Err(Reason::InvalidShareElement)
         } else {
-            Gf256Answer::Done(Gf256(gf256_inverse(self.0)))
+            Ok(Gf256(gf256_inverse(self.0)))
         }
     }
 
-    pub fn div(self, other: Gf256) -> Gf256Answer
+    pub fn div(self, other: Gf256) -> Result<Gf256, Reason>
         ensures { gf256_answer_of result ≡ quotient_outcome self.0 other.0 }
     {
         if other.0 == 0 {
-            Gf256Answer::Refused(Reason::InvalidShareElement)
+            Err(Reason::InvalidShareElement)
         } else {
-            Gf256Answer::Done(Gf256(gf256_mul(self.0, gf256_inverse(other.0))))
+            Ok(Gf256(gf256_mul(self.0, gf256_inverse(other.0))))
         }
     }
 }
@@ -158,13 +151,6 @@ impl Gf256 {
 // The identifier of a row: an element that is counted up as a number.
 #[derive(Clone, Copy)]
 pub struct IdentifierGf256(pub Gf256);
-
-// An identifier, or why there is none.
-#[derive(Clone, Copy)]
-pub enum IdentifierAnswer {
-    Done(IdentifierGf256),
-    Refused(Reason),
-}
 
 impl IdentifierGf256 {
     pub const ZERO: IdentifierGf256 = IdentifierGf256(Gf256(0));
@@ -183,13 +169,13 @@ impl IdentifierGf256 {
         IdentifierGf256::ONE
     }
 
-    pub fn from_slice(slice: &[u8]) -> IdentifierAnswer
+    pub fn from_slice(slice: &[u8]) -> Result<IdentifierGf256, Reason>
         ensures { identifier_answer_of result ≡ slice_outcome slice.now }
     {
         if slice.len() == 1 {
-            IdentifierAnswer::Done(IdentifierGf256(Gf256(slice[0])))
+            Ok(IdentifierGf256(Gf256(slice[0])))
         } else {
-            IdentifierAnswer::Refused(Reason::InvalidShareElement)
+            Err(Reason::InvalidShareElement)
         }
     }
 
@@ -206,12 +192,9 @@ impl IdentifierGf256 {
         IdentifierGf256(Gf256(util::field_bounded_add(self.0.0, increment.0.0, 256)))
     }
 
-    pub fn invert(self) -> IdentifierAnswer
+    pub fn invert(self) -> Result<IdentifierGf256, Reason>
         ensures { identifier_answer_of result ≡ inverse_outcome self.0.0 }
     {
-        match self.0.invert() {
-            Gf256Answer::Done(inverse) => IdentifierAnswer::Done(IdentifierGf256(inverse)),
-            Gf256Answer::Refused(reason) => IdentifierAnswer::Refused(reason),
-        }
+        Ok(IdentifierGf256(self.0.invert()?))
     }
 }

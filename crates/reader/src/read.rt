@@ -5,13 +5,13 @@ ghost use Rattle.reading.specs.Answer.{ReadsSheet};
 use crate::decode::{put_numbers, take_rows};
 use crate::judge::wrong_line;
 use crate::lines::read_head;
-use answer::{Answer, Reason};
+use answer::Reason;
 
 // Threshold, row count and L, four bytes each.
 const HEAD_BYTES: usize = 12;
 
 // The rows of a sheet one after another, and the numbers of its first line.
-pub fn read_sheet(text: &[u8], head: &mut [u8], out: &mut [u8]) -> Answer
+pub fn read_sheet(text: &[u8], head: &mut [u8], out: &mut [u8]) -> Result<usize, Reason>
     ensures { ReadsSheet text.now head.old out.old (answer_of result) head.new out.new }
 {
     let first = read_head(text);
@@ -19,21 +19,21 @@ pub fn read_sheet(text: &[u8], head: &mut [u8], out: &mut [u8]) -> Answer
     let m = first.rows;
     let l = first.values;
     if t == 0 {
-        return Answer::Refused(Reason::InvalidSheet(0));
+        return Err(Reason::InvalidSheet(0));
     }
     let start = sheets::head_length(t, m, l);
     let line = wrong_line(text, start, m, l);
     if line != 0 {
-        return Answer::Refused(Reason::InvalidSheet(line));
+        return Err(Reason::InvalidSheet(line));
     }
     if head.len() < HEAD_BYTES {
-        return Answer::Refused(Reason::NoRoom);
+        return Err(Reason::NoRoom);
     }
     let count = m * (l + 1);
     if out.len() < count {
-        return Answer::Refused(Reason::NoRoom);
+        return Err(Reason::NoRoom);
     }
     put_numbers(head, t, m, l);
     take_rows(text, start, m, l, out);
-    Answer::Done(count)
+    Ok(count)
 }

@@ -1,10 +1,10 @@
 -- What document 02, §2, says of the reader's answer: which texts it accepts, and that reading and writing undo each other. Beside that,
 -- what the promise of the reader leaves open, which is nothing.
 -- Assumes nothing.
-use Rattle.std.specs.Prelude.{◌≡◌, List, ◌++◌, ◌⊎◌, ℕ, ◌+◌, ◌/◌, ◌<◌, ◌≤◌, length, get_or, take, drop, replicate}
+use Rattle.std.specs.Prelude.{◌≡◌, List, ◌++◌, ◌⊎◌, ℕ, Result, ◌+◌, ◌/◌, ◌<◌, ◌≤◌, length, get_or, take, drop, replicate}
 use Rattle.answer.specs.Outcome.{done, refused}
 use Rattle.answer.specs.Answers.{answer_of}
-use Rattle.answer.specs.declared.Answer.{Answer}
+use Rattle.answer.specs.declared.Reason.{Reason}
 use Rattle.shamir.specs.Lists.{Below}
 use Rattle.rows.specs.Lengths.{four_bytes, length_bytes, fours, lengths_of}
 use Rattle.row_set.specs.RowSet.{secret_length}
@@ -74,6 +74,6 @@ Untouched =
 -- Determined: two answers and memories that the promise allows for one call are the same.
 abbrev pub Determined : Type 0
 Determined =
-    (text head out : List ℕ) (a b : Answer) (head-a left-a head-b left-b : List ℕ)
+    (text head out : List ℕ) (a b : Result ℕ Reason) (head-a left-a head-b left-b : List ℕ)
     → ReadsSheet text head out (answer_of a) head-a left-a → ReadsSheet text head out (answer_of b) head-b left-b
     → (a ≡ b) × (head-a ≡ head-b) × (left-a ≡ left-b)

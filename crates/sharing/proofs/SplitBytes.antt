@@ -7,8 +7,7 @@ use native.Mathlib.Omega.{arith}
 use lib.ListN.{length, take, drop}
 use Rattle.answer.specs.Outcome.{Outcome, done, refused}
 use Rattle.answer.specs.Answers.{answer_of}
-use Rattle.answer.specs.declared.Answer.{Answer}
-use Rattle.answer.specs.declared.Answer.TheVariants.{Done, Refused}
+use Rattle.std.specs.Prelude.{Result, Ok, Err}
 use Rattle.answer.specs.declared.Reason.{Reason}
 use Rattle.answer.proofs.Meaning.{told}
 use Rattle.row_set.specs.Limits.{at_exit}
@@ -16,9 +15,9 @@ use Rattle.sharing.specs.Split.{split_room, split_outcome, rows_of, split_bytes,
 use Rattle.sharing.proofs.SplitAccepted.{Accepted, accepted}
 
 -- a refusal is no done answer, so it leaves what stood there
-refused_keeps : (reason : Reason) (bytes out : List ℕ) → at_exit (answer_of (Refused reason)) bytes out ≡ out
-refused_keeps reason bytes out = keeps (answer_of (Refused reason)) (λ m e.
-    let same : Refused reason ≡ Done m = told (Refused reason) (Done m) e in
+refused_keeps : (reason : Reason) (bytes out : List ℕ) → at_exit (answer_of (Err reason)) bytes out ≡ out
+refused_keeps reason bytes out = keeps (answer_of (Err reason)) (λ m e.
+    let same : Err reason ≡ Ok m = told (Err reason) (Ok m) e in
     let z : ◌≡◌ {A = ℕ} 0 1 = cc in
     omega arith)
   where
@@ -27,11 +26,11 @@ refused_keeps reason bytes out = keeps (answer_of (Refused reason)) (λ m e.
     keeps (refused number first second) n = refl
 
 -- the code's answer r keeps the promise where it is given with these bytes
-module _ (t n : ℕ) (ss ids cs out : List ℕ) (r : Answer) (answers : answer_of r ≡ split_outcome t n (length ss) ids (length cs) (length out)) where
-  pub done-accepted : (m : ℕ) → r ≡ Done m → Accepted t n (length ss) ids (length cs) (length out) m
+module _ (t n : ℕ) (ss ids cs out : List ℕ) (r : Result ℕ Reason) (answers : answer_of r ≡ split_outcome t n (length ss) ids (length cs) (length out)) where
+  pub done-accepted : (m : ℕ) → r ≡ Ok m → Accepted t n (length ss) ids (length cs) (length out) m
   done-accepted m e = accepted t n (length ss) ids (length cs) (length out) m (sym answers ∙ ap answer_of e)
 
-  pub splits_done : (m : ℕ) → r ≡ Done m → (left : List ℕ) → left ≡ rows_of (t - 1) ss cs (take n ids) ++ drop (split_room n (length ss)) out
+  pub splits_done : (m : ℕ) → r ≡ Ok m → (left : List ℕ) → left ≡ rows_of (t - 1) ss cs (take n ids) ++ drop (split_room n (length ss)) out
       → Splits t n ss ids cs out (answer_of r) left
   unfolding split_bytes
   splits_done m e left written = record {
@@ -42,7 +41,7 @@ module _ (t n : ℕ) (ss ids cs out : List ℕ) (r : Answer) (answers : answer_o
         ∙ ap (λ o. at_exit o (rows_of (t - 1) ss cs (take n ids)) out) (sym (ap answer_of e) ∙ answers);
   }
 
-  pub splits_refused : (reason : Reason) → r ≡ Refused reason → Splits t n ss ids cs out (answer_of r) out
+  pub splits_refused : (reason : Reason) → r ≡ Err reason → Splits t n ss ids cs out (answer_of r) out
   unfolding split_bytes
   splits_refused reason e = record {
     answers = answers;

@@ -5,39 +5,37 @@ ghost use Rattle.rows.specs.Combining.{Ready};
 ghost use Rattle.sharing.specs.Combine.{Combines, CombinesAccepted};
 ghost use Rattle.sharing.specs.ByteLengths.{CombinesByByteLengths};
 
-use answer::{Answer, Reason};
+use answer::Reason;
 use row_set::{judge_rows, judge_rows_by_byte_lengths};
 
 // Of m accepted rows with l values each.
-fn combine_accepted(rows: &[u8], m: usize, l: usize, out: &mut [u8]) -> Answer
+fn combine_accepted(rows: &[u8], m: usize, l: usize, out: &mut [u8]) -> Result<usize, Reason>
     requires { Ready (l + 1) m rows.now }
     ensures { CombinesAccepted l m rows.now out.old (answer_of result) out.new }
 {
     if out.len() < l {
-        return Answer::Refused(Reason::NoRoom);
+        return Err(Reason::NoRoom);
     }
     rows::combine_rows(&mut out[..l], rows, m);
-    Answer::Done(l)
+    Ok(l)
 }
 
 // The secret of rows that lie one after another and have these lengths.
-pub fn combine_bytes(rows: &[u8], lengths: &[u32], out: &mut [u8]) -> Answer
+pub fn combine_bytes(rows: &[u8], lengths: &[u32], out: &mut [u8]) -> Result<usize, Reason>
     ensures { Combines rows.now lengths.now out.old (answer_of result) out.new }
 {
-    let judged = judge_rows(rows, lengths, 1);
-    let Answer::Done(l) = judged else {
-        return judged;
-    };
+    let l = judge_rows(rows, lengths, 1)?;
     combine_accepted(rows, lengths.len(), l, out)
 }
 
 // The same for the host, from which the lengths come as bytes, four a row, least first.
-pub fn combine_bytes_by_byte_lengths(rows: &[u8], lengths: &[u8], out: &mut [u8]) -> Answer
+pub fn combine_bytes_by_byte_lengths(
+    rows: &[u8],
+    lengths: &[u8],
+    out: &mut [u8],
+) -> Result<usize, Reason>
     ensures { CombinesByByteLengths rows.now lengths.now out.old (answer_of result) out.new }
 {
-    let judged = judge_rows_by_byte_lengths(rows, lengths, 1);
-    let Answer::Done(l) = judged else {
-        return judged;
-    };
+    let l = judge_rows_by_byte_lengths(rows, lengths, 1)?;
     combine_accepted(rows, lengths.len() / 4, l, out)
 }

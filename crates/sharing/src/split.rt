@@ -4,7 +4,7 @@ ghost use Rattle.std.specs.Prelude.{◌≡◌, ◌++◌, ◌*◌, ◌<◌, ◌�
 ghost use Rattle.answer.specs.Answers.{answer_of};
 ghost use Rattle.sharing.specs.Split.{split_room, split_outcome, rows_of, Splits};
 
-use answer::{Answer, Reason};
+use answer::Reason;
 use row_set::{MAX_SECRET, MAX_SHARES};
 
 // The answer, from lengths and identifiers alone. A product is made only once the tests before it bound its factors.
@@ -15,42 +15,42 @@ fn split_answer(
     ids: &[u8],
     count: usize,
     room: usize,
-) -> Answer
+) -> Result<usize, Reason>
     ensures { answer_of result ≡ split_outcome threshold limit length ids.now count room }
 {
     if MAX_SHARES < limit {
-        return Answer::Refused(Reason::InvalidSizeRequest);
+        return Err(Reason::InvalidSizeRequest);
     }
     if length == 0 {
-        return Answer::Refused(Reason::InvalidSecret);
+        return Err(Reason::InvalidSecret);
     }
     if limit < threshold {
-        return Answer::Refused(Reason::SharingLimitLessThanThreshold);
+        return Err(Reason::SharingLimitLessThanThreshold);
     }
     if threshold < 2 {
-        return Answer::Refused(Reason::SharingMinThreshold);
+        return Err(Reason::SharingMinThreshold);
     }
     let mut i = 0;
     while i < limit {
         if ids.len() <= i {
-            return Answer::Refused(Reason::NotEnoughShareIdentifiers);
+            return Err(Reason::NotEnoughShareIdentifiers);
         }
         if ids[i] == 0 {
-            return Answer::Refused(Reason::SharingInvalidIdentifier(i));
+            return Err(Reason::SharingInvalidIdentifier(i));
         }
         i += 1;
     }
     if MAX_SECRET < length {
-        return Answer::Refused(Reason::TooLong);
+        return Err(Reason::TooLong);
     }
     if count != length * (threshold - 1) {
-        return Answer::Refused(Reason::CoefficientCount);
+        return Err(Reason::CoefficientCount);
     }
     let bytes = limit * (length + 1);
     if room < bytes {
-        return Answer::Refused(Reason::NoRoom);
+        return Err(Reason::NoRoom);
     }
-    Answer::Done(bytes)
+    Ok(bytes)
 }
 
 // The rows of the first n identifiers, one after another. What lies behind them is not touched.
@@ -81,7 +81,7 @@ pub fn split_bytes_with_participant_ids_iter(
     participant_ids: &[u8],
     coefficients: &[u8],
     out: &mut [u8],
-) -> Answer
+) -> Result<usize, Reason>
     ensures { Splits threshold limit secret.now participant_ids.now coefficients.now out.old (answer_of result) out.new }
 {
     let answer = split_answer(
@@ -92,7 +92,7 @@ pub fn split_bytes_with_participant_ids_iter(
         coefficients.len(),
         out.len(),
     );
-    if let Answer::Done(_) = answer {
+    if let Ok(_) = answer {
         write_rows(
             limit,
             participant_ids,

@@ -7,7 +7,6 @@ ghost use Rattle.std.specs.Prelude.{◌≡◌, ◌≤◌, length, drop};
 ghost use Rattle.reading.specs.Unsheet.{after_line};
 ghost use Rattle.sheet_rows.specs.Shown.{ShowsRight};
 
-use answer::Answer;
 use std::io;
 
 // A text may have this many bytes.
@@ -75,8 +74,8 @@ fn output_of(text: &[u8]) -> Output
     let mut rows = row_bytes();
     let answer = reader::read_sheet(text, &mut head, &mut rows);
     match answer {
-        Answer::Done(_) => Output::From(behind_first_line(text)),
-        Answer::Refused(reason) => Output::Number(reason.number()),
+        Ok(_) => Output::From(behind_first_line(text)),
+        Err(reason) => Output::Number(reason.number()),
     }
 }
 

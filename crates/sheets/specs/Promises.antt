@@ -1,10 +1,10 @@
 -- What the promise of the sheet writer leaves open, which is nothing; that its text tells what was written; and document 02's
 -- example.
 -- Assumes nothing.
-use Rattle.std.specs.Prelude.{◌≡◌, List, [], ◌∷◌, ℕ, length, get_or, replicate}
+use Rattle.std.specs.Prelude.{◌≡◌, List, [], ◌∷◌, ℕ, Result, length, get_or, replicate}
 use Rattle.answer.specs.Outcome.{done}
 use Rattle.answer.specs.Answers.{answer_of}
-use Rattle.answer.specs.declared.Answer.{Answer}
+use Rattle.answer.specs.declared.Reason.{Reason}
 use Rattle.shamir.specs.Lists.{Below}
 use Rattle.rows.specs.Storage.{cut, identifiers}
 use Rattle.rows.specs.Lengths.{lengths_of}
@@ -15,7 +15,7 @@ use Rattle.sheets.specs.ReadAs.{value}
 -- Determined: two answers and outputs that the promise allows for one call are the same.
 abbrev pub Determined : Type 0
 Determined =
-    (t : ℕ) (s bytes out : List ℕ) (a b : Answer) (left right : List ℕ)
+    (t : ℕ) (s bytes out : List ℕ) (a b : Result ℕ Reason) (left right : List ℕ)
     → WritesSheet t s bytes out (answer_of a) left → WritesSheet t s bytes out (answer_of b) right → (a ≡ b) × (left ≡ right)
 
 -- Independent: the answer is the same for two calls that agree on the threshold, the lengths, the identifiers and the room.

@@ -6,35 +6,43 @@ ghost use Rattle.sheets.specs.Sheet.{WritesAccepted, WritesSheet};
 
 use crate::length::sheet_length;
 use crate::put::{put_head, put_rows};
-use answer::{Answer, Reason};
+use answer::Reason;
 
 // Of m accepted rows with l values each.
-fn write_accepted(threshold: usize, rows: &[u8], m: usize, l: usize, out: &mut [u8]) -> Answer
+fn write_accepted(
+    threshold: usize,
+    rows: &[u8],
+    m: usize,
+    l: usize,
+    out: &mut [u8],
+) -> Result<usize, Reason>
     requires { (m ≤ max_rows) × (l ≤ max_secret) × (m * (l + 1) ≡ length rows.now) }
     ensures { WritesAccepted threshold m l rows.now out.old (answer_of result) out.new }
 {
     if threshold < 2 {
-        return Answer::Refused(Reason::SharingMinThreshold);
+        return Err(Reason::SharingMinThreshold);
     }
     if row_set::MAX_SHARES < threshold {
-        return Answer::Refused(Reason::InvalidSizeRequest);
+        return Err(Reason::InvalidSizeRequest);
     }
     let n = sheet_length(threshold, rows, m, l);
     if out.len() < n {
-        return Answer::Refused(Reason::NoRoom);
+        return Err(Reason::NoRoom);
     }
     let at = put_head(out, threshold, m, l);
     put_rows(out, at, rows, l + 1, m);
-    Answer::Done(n)
+    Ok(n)
 }
 
 // The sheet of rows that lie one after another; their lengths come as bytes, four a row, least first.
-pub fn write_sheet(threshold: usize, rows: &[u8], lengths: &[u8], out: &mut [u8]) -> Answer
+pub fn write_sheet(
+    threshold: usize,
+    rows: &[u8],
+    lengths: &[u8],
+    out: &mut [u8],
+) -> Result<usize, Reason>
     ensures { WritesSheet threshold rows.now lengths.now out.old (answer_of result) out.new }
 {
-    let judged = row_set::judge_rows_by_byte_lengths(rows, lengths, 0);
-    let Answer::Done(l) = judged else {
-        return judged;
-    };
+    let l = row_set::judge_rows_by_byte_lengths(rows, lengths, 0)?;
     write_accepted(threshold, rows, lengths.len() / 4, l, out)
 }

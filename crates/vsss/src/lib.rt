@@ -10,16 +10,16 @@ ghost use Rattle.sheets.specs.Sheet.{sheet_answer, sheet_bytes};
 ghost use Rattle.reading.specs.Answer.{read_answer, read_head, read_rows};
 ghost use Rattle.vsss.specs.Words.{Gives};
 
-use answer::Answer;
+use answer::Reason;
 
 // The answer as a word: the count, or number, first place and second place in its bits from 40, from 16 and from 0 on.
-fn word(a: Answer) -> u64
+fn word(a: Result<usize, Reason>) -> u64
     requires { word_of (answer_of a) < 2 ^ 64 }
     ensures { result ≡ word_of (answer_of a) }
 {
     match a {
-        Answer::Done(count) => count as u64,
-        Answer::Refused(reason) => {
+        Ok(count) => count as u64,
+        Err(reason) => {
             reason.number() * 0x100_0000_0000
                 + (reason.first_place() as u64) * 0x1_0000
                 + (reason.second_place() as u64)

@@ -5,17 +5,17 @@ use Rattle.reading.specs.Answer.{read_answer}
 use Rattle.sheet_rows.proofs.Shown.{shows_lines, shows_number}
 use Rattle.sheet_rows.proofs.output_of.Goals as goal
 
-pub returns-in-Done : goal.returns-in-Done
-returns-in-Done c =
+pub returns-in-Ok : goal.returns-in-Ok
+returns-in-Ok c =
     let behind = c.behind_first_line.ensures in
-    shows_lines c.args.text.now _ _ _ _ (sym c.read_sheet-answer.ensures.answers ∙ told-done c.in-Done.is) behind.0 behind.1
+    shows_lines c.args.text.now _ _ _ _ (sym c.read_sheet-answer.ensures.answers ∙ told-done c.in-Ok.is) behind.0 behind.1
 
-pub returns-in-Refused : goal.returns-in-Refused
-returns-in-Refused c =
+pub returns-in-Err : goal.returns-in-Err
+returns-in-Err c =
     let text = c.args.text.now in
     let answer =
     ap₂ (read_answer text) c.head_bytes-head.ensures c.row_bytes-rows.ensures
     ∙ sym c.read_sheet-answer.ensures.answers
-    ∙ told-refused c.in-Refused.is in
+    ∙ told-refused c.in-Err.is in
     let r = shows_number text 49152 _ _ _ c.requires answer in
     (c.number.ensures ∙ r.0, r.1)

@@ -9,7 +9,7 @@ overflow_sub-threshold c =
     let r = c.split_answer-answer in
     omega (
       arith,
-      done-accepted s.threshold s.limit s.secret.now s.participant_ids.now s.coefficients.now s.out.now r.result r.ensures c.in-Done.field-0 c.in-Done.is,
+      done-accepted s.threshold s.limit s.secret.now s.participant_ids.now s.coefficients.now s.out.now r.result r.ensures c.in-Ok.field-0 c.in-Ok.is,
     )
 
 pub write_rows-requires : goal.write_rows-requires
@@ -17,14 +17,14 @@ write_rows-requires c =
     let s = c.args in
     let r = c.split_answer-answer in
     let a =
-    done-accepted s.threshold s.limit s.secret.now s.participant_ids.now s.coefficients.now s.out.now r.result r.ensures c.in-Done.field-0 c.in-Done.is in
+    done-accepted s.threshold s.limit s.secret.now s.participant_ids.now s.coefficients.now s.out.now r.result r.ensures c.in-Ok.field-0 c.in-Ok.is in
     (omega arith, omega arith, omega arith, omega arith)
 
-pub returns-in-Done : goal.returns-in-Done
-returns-in-Done c =
+pub returns-in-Ok : goal.returns-in-Ok
+returns-in-Ok c =
     let s = c.args in
     let r = c.split_answer-answer in
-    splits_done s.threshold s.limit s.secret.now s.participant_ids.now s.coefficients.now s.out.now r.result r.ensures c.in-Done.field-0 c.in-Done.is _
+    splits_done s.threshold s.limit s.secret.now s.participant_ids.now s.coefficients.now s.out.now r.result r.ensures c.in-Ok.field-0 c.in-Ok.is _
     c.write_rows.ensures
 
 pub returns-in_default : goal.returns-in_default

@@ -1,21 +1,20 @@
 -- `write_sheet` meets its contract: what the checks refuse is refused, and accepted rows are written.
-use mathlib.Core.Path.{sym, ◌∙◌}
-use Rattle.row_set.proofs.Chains.{told-done, told-refused}
+use mathlib.Core.Path.{sym}
+use Rattle.std.proofs.lemmas.Result.{err_from_is_err_and}
+use Rattle.answer.proofs.Meaning.{refusal}
 use Rattle.sheets.proofs.SheetRules.{refuses, accepted, writes}
 use Rattle.sheets.proofs.write.write_sheet.Goals as goal
 
-pub returns-in_default : goal.returns-in_default
-returns-in_default c =
+pub returns-in_err-l : goal.returns-in_err-l
+returns-in_err-l c =
     let a = c.args in
-    refuses a.threshold a.rows.now a.lengths.now a.out.now (told-refused c.in_default.is) c.judge_rows_by_byte_lengths-judged.ensures
+    let p = err_from_is_err_and c.from_residual.result c.from_residual.ensures.1 in
+    rw (p.1, p.2) (refuses a.threshold a.rows.now a.lengths.now a.out.now (refusal c.in_err-l.field-0.0) c.in_err-l.ensures)
 
 pub write_accepted-requires : goal.write_accepted-requires
-write_accepted-requires c =
-    let a = c.args in
-    accepted a.threshold a.rows.now a.lengths.now a.out.now (sym c.judge_rows_by_byte_lengths-judged.ensures ∙ told-done c.in-Done.is)
+write_accepted-requires c = let a = c.args in accepted a.threshold a.rows.now a.lengths.now a.out.now (sym c.in_ok-l.ensures)
 
 pub returns : goal.returns
 returns c =
     let a = c.args in
-    writes a.threshold a.rows.now a.lengths.now a.out.now (sym c.judge_rows_by_byte_lengths-judged.ensures ∙ told-done c.in-Done.is)
-    c.write_accepted.ensures
+    writes a.threshold a.rows.now a.lengths.now a.out.now (sym c.in_ok-l.ensures) c.write_accepted.ensures

@@ -1,23 +1,17 @@
--- How many bytes of each field the program keeps, as its constants have it. Assumes nothing.
+-- How many bytes of a field the program keeps, by what the field is for. Assumes nothing.
 use Rattle.std.specs.Prelude.{ℕ, ◌+◌, ◌*◌}
 use Rattle.row_set.specs.Limits.{max_secret}
+use Rattle.replay.specs.declared.parse.Kind.{Kind}
+use Rattle.replay.specs.declared.parse.Kind.TheVariants.{Values, Ids, Rows, Lengths, Output}
 
+abbrev pub most : Kind → ℕ
 -- of a secret, and of coefficients
-abbrev pub values : ℕ
-values = max_secret + 104
-
--- of an output, a head and a sheet's text
-abbrev pub output : ℕ
-output = 3 * (max_secret + 4)
-
+most Values = max_secret + 104
 -- of identifiers
-abbrev pub ids : ℕ
-ids = 300
-
+most Ids = 300
 -- of rows
-abbrev pub rows : ℕ
-rows = 2 * max_secret + 140000
-
+most Rows = 2 * max_secret + 140000
 -- of lengths
-abbrev pub lengths : ℕ
-lengths = 262152
+most Lengths = 262152
+-- of an output, a head and a sheet's text
+most Output = 3 * (max_secret + 4)

@@ -17,8 +17,6 @@
 // as a whole is not run: `input too large`.
 #![tactic(auto)]
 
-ghost use Rattle.std.specs.Prelude.{◌≡◌, length};
-
 mod calls;
 mod parse;
 mod print;
@@ -28,38 +26,24 @@ use std::io;
 // A text may have this many bytes.
 const MOST: usize = 1048576;
 
-// One byte more, to see that the text has no more. The contract keeps the contents out of the proof of main.
-fn input_bytes() -> [u8; 1048577]
-    ensures { 1048577 ≡ length result }
-{
-    [0; 1048577]
-}
-
-fn line(rt: &impl Print, text: &[u8]) -> io::Result<()> {
-    if text.len() == 0 || text[0] == b'#' {
-        print::say(rt, text)?;
-    } else {
-        calls::run(rt, text)?;
+fn line<R: Print + AllocGlobal>(rt: &R, text: &[u8]) -> io::Result<()> {
+    match text {
+        [] | [b'#', ..] => rt.write_all(text)?,
+        _ => calls::run(rt, text)?,
     }
-    print::say(rt, b"\n")
+    println!(rt)
 }
 
-fn lines(rt: &impl Print, text: &[u8]) -> io::Result<()> {
-    let mut at = 0;
-    while at < text.len() {
-        let end = parse::find(text, at, b'\n');
-        line(rt, &text[at..end])?;
-        at = parse::behind(text, end);
+fn lines<R: Print + AllocGlobal>(rt: &R, text: &[u8]) -> io::Result<()> {
+    for text in text.split_inclusive(|c| *c == b'\n') {
+        line(rt, text.strip_suffix(b"\n").unwrap_or(text))?;
     }
     Ok(())
 }
 
 fn main(rt: HostRuntime) -> io::Result<()> {
-    let mut input = input_bytes();
-    let n = standard_input::read_full(&rt, &mut input);
-    if n > MOST {
-        print::say(&rt, b"input too large\n")
-    } else {
-        lines(&rt, &input[..n])
+    match standard_input::read_within(&rt, rt.alloc(), MOST)? {
+        Some(text) => lines(&rt, &text),
+        None => println!(&rt; "input too large"),
     }
 }

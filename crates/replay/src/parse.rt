@@ -1,234 +1,152 @@
-// Reads the parts of a line: fields, numbers and byte strings.
-ghost use Rattle.std.specs.Prelude.{◌≡◌, ◌+◌, ◌≤◌, min, length};
-ghost use Rattle.replay.specs.Fill.{Within};
+// Reads the fields of a call: numbers and byte strings.
+ghost use Rattle.std.specs.Prelude.{◌≡◌, ◌≤◌, ◌<◌, IfOk, IfSome, vec_len};
+ghost use Rattle.replay.specs.Rooms.{most};
 
-#[derive(Drop)]
-pub enum Number {
-    Is(usize),
-    Unreadable,
-}
+use row_set::MAX_SECRET;
+use std::alloc::{AllocError, AllocFailed, Global};
+use std::io;
 
-// How far a buffer was filled, or why not. Of a line: that of its output.
+// Why a line has no answer.
 #[derive(Drop)]
-pub enum Filled {
-    Bytes(usize),
+pub enum Fault {
     Unreadable,
     TooLarge,
+    Io(io::Error),
 }
 
-// The place of the first mark from a place on, or the length where there is none.
-pub fn find(text: &[u8], at: usize, mark: u8) -> usize
-    requires { at ≤ length text.now }
-    ensures { (at ≤ result) × (result ≤ length text.now) }
-{
-    let mut i = at;
-    while i < text.len() {
-        if text[i] == mark {
-            return i;
+impl From<io::Error> for Fault {
+    fn from(e: io::Error) -> Fault {
+        Fault::Io(e)
+    }
+}
+
+impl From<AllocError> for Fault {
+    fn from(e: AllocError) -> Fault {
+        Fault::Io(e.into())
+    }
+}
+
+impl<T: Drop> From<AllocFailed<T>> for Fault {
+    fn from(e: AllocFailed<T>) -> Fault {
+        Fault::Io(e.into())
+    }
+}
+
+// What a field is for, and so how many bytes of it are kept.
+#[derive(Clone, Copy)]
+pub enum Kind {
+    // A secret, and coefficients.
+    Values,
+    Ids,
+    Rows,
+    Lengths,
+    // An output, a head and a sheet's text.
+    Output,
+}
+
+impl Kind {
+    // More than the entries take, so that their limits are met from either side.
+    pub fn most(self) -> usize
+        ensures { result ≡ most self }
+    {
+        match self {
+            Kind::Values => MAX_SECRET + 104,
+            Kind::Ids => 300,
+            // Two of the longest, or as many of the shortest as are ever taken.
+            Kind::Rows => 2 * MAX_SECRET + 140000,
+            // Three more than are ever taken.
+            Kind::Lengths => 262152,
+            // Three of the longest rows, or the sheet of one.
+            Kind::Output => 3 * (MAX_SECRET + 4),
         }
-        i += 1;
     }
-    i
 }
 
-// The place behind a place, or the length.
-pub fn behind(text: &[u8], at: usize) -> usize
-    requires { at ≤ length text.now }
-    ensures { result ≡ min (at + 1) (length text.now) }
-{
-    if at < text.len() { at + 1 } else { at }
-}
-
-// How often the mark stands in the text.
-pub fn count(text: &[u8], mark: u8) -> usize {
-    let mut n: usize = 0;
-    let mut i = 0;
-    while i < text.len() {
-        if text[i] == mark {
-            n += 1;
-        }
-        i += 1;
-    }
-    n
-}
-
-pub fn starts_with(text: &[u8], start: &[u8]) -> bool {
-    if text.len() < start.len() {
-        return false;
-    }
-    let mut i = 0;
-    while i < start.len() {
-        if text[i] != start[i] {
-            return false;
-        }
-        i += 1;
-    }
-    true
-}
-
-// Where field k begins, or the end of the line.
-fn field_start(line: &[u8], k: usize) -> usize
-    ensures { result ≤ length line.now }
-{
-    let mut at = 0;
-    let mut left = k;
-    while left > 0 {
-        at = behind(line, find(line, at, b' '));
-        left -= 1;
-    }
-    at
-}
-
-// The field that k others precede.
-fn field(line: &[u8], k: usize) -> &[u8] {
-    let start = field_start(line, k);
-    let end = find(line, start, b' ');
-    &line[start..end]
-}
-
-// The value of a hexadecimal digit; 16 for any other byte.
-fn digit(c: u8) -> u8
-    ensures { result ≤ 16 }
+// The value of a hexadecimal digit in lower case. (`to_digit` of the library takes upper case too.)
+fn digit(c: u8) -> Option<u8>
+    ensures { IfSome result (λ d. d < 16) }
 {
     match c {
-        b'0'..=b'9' => c - b'0',
-        b'a'..=b'f' => c - b'a' + 10,
-        _ => 16,
+        b'0'..=b'9' => Some(c - b'0'),
+        b'a'..=b'f' => Some(c - b'a' + 10),
+        _ => None,
     }
 }
 
-fn value(text: &[u8]) -> Number {
-    if text.len() == 0 {
-        return Number::Unreadable;
+// The number that the digits spell. (`from_str_radix` of the library takes a sign and upper case too.)
+fn value(digits: &[u8]) -> Option<usize> {
+    if digits.is_empty() {
+        return None;
     }
     let mut sum: usize = 0;
-    let mut i = 0;
-    while i < text.len() {
-        let d = digit(text[i]);
-        if d > 15 {
-            return Number::Unreadable;
-        }
-        if sum > 0x0fff_ffff_ffff_ffff {
-            return Number::Unreadable;
-        }
-        sum = sum * 16 + d as usize;
-        i += 1;
+    for c in digits {
+        let d = digit(*c)?;
+        sum = sum.checked_mul(16)?.checked_add(d as usize)?;
     }
-    Number::Is(sum)
+    Some(sum)
 }
 
-// The byte that two digits spell; 256 where they are none.
-fn byte(high: u8, low: u8) -> u16 {
-    let h = digit(high);
-    let l = digit(low);
-    if h > 15 {
-        return 256;
-    }
-    if l > 15 {
-        return 256;
-    }
-    (h as u16) * 16 + l as u16
+pub fn number(field: &[u8]) -> Result<usize, Fault> {
+    value(field).ok_or(Fault::Unreadable)
 }
 
-// Puts the bytes that the digits spell behind the first `from` bytes of the buffer.
-fn spell(digits: &[u8], buffer: &mut [u8], from: usize) -> Filled
-    requires { from ≤ length buffer.old }
-    ensures { Within result buffer.new }
+// The byte that two digits spell.
+fn byte(high: u8, low: u8) -> Option<u8> {
+    Some(digit(high)? * 16 + digit(low)?)
+}
+
+// Puts the bytes that the digits spell behind those that are there.
+fn spell(digits: &[u8], bytes: &mut Vec<u8>, limit: usize) -> Result<(), Fault>
+    requires { vec_len bytes.old ≤ limit }
+    ensures { vec_len bytes.new ≤ limit }
 {
-    let mut n = from;
-    let mut i = 0;
-    while digits.len() - i > 1 {
-        let b = byte(digits[i], digits[i + 1]);
-        if b > 255 {
-            return Filled::Unreadable;
+    let (pairs, rest) = digits.as_chunks::<2>();
+    for [high, low] in pairs {
+        let b = byte(*high, *low).ok_or(Fault::Unreadable)?;
+        if bytes.len() == limit {
+            return Err(Fault::TooLarge);
         }
-        if n == buffer.len() {
-            return Filled::TooLarge;
-        }
-        buffer[n] = b as u8;
-        n += 1;
-        i += 2;
+        bytes.push(b)?;
     }
-    if i < digits.len() || i == 0 {
-        return Filled::Unreadable;
+    if pairs.is_empty() || !rest.is_empty() {
+        return Err(Fault::Unreadable);
     }
-    Filled::Bytes(n)
+    Ok(())
 }
 
-// As spell, so many times. The buffer ends it where the count is beyond all sense.
-fn repeat(digits: &[u8], times: usize, buffer: &mut [u8], from: usize) -> Filled
-    requires { from ≤ length buffer.old }
-    ensures { Within result buffer.new }
-{
-    let mut n = from;
-    let mut left = times;
-    while left > 0 {
-        let filled = spell(digits, buffer, n);
-        let Filled::Bytes(end) = filled else {
-            return filled;
-        };
-        n = end;
-        left -= 1;
-    }
-    Filled::Bytes(n)
-}
-
-// How often an item's digits are to be repeated, with a star at a place or none; 0 where that cannot be read.
-fn times(item: &[u8], star: usize) -> usize {
-    if star >= item.len() {
-        return 1;
-    }
-    let Number::Is(n) = value(&item[star + 1..]) else {
-        return 0;
+// The digits of an item and how often they are to be repeated. A count of 0 would let digits go unread, and is none.
+fn parts(item: &[u8]) -> Option<(&[u8], usize)> {
+    let Some(star) = item.iter().position(|c| *c == b'*') else {
+        return Some((item, 1));
     };
-    n
-}
-
-// One item of a byte string: digits, or digits, * and a count. A count of 0 would let digits go unread, and is none.
-fn item(text: &[u8], buffer: &mut [u8], from: usize) -> Filled
-    requires { from ≤ length buffer.old }
-    ensures { Within result buffer.new }
-{
-    let star = find(text, 0, b'*');
-    let n = times(text, star);
-    if n == 0 {
-        return Filled::Unreadable;
+    let times = value(&item[star + 1..])?;
+    if times == 0 {
+        return None;
     }
-    repeat(&text[..star], n, buffer, from)
+    Some((&item[..star], times))
 }
 
-// The items of a byte string, one behind the other.
-fn items(text: &[u8], buffer: &mut [u8]) -> Filled
-    ensures { Within result buffer.new }
+// Puts the bytes of one item behind those that are there. The limit ends it where the count is beyond all sense.
+fn item(text: &[u8], bytes: &mut Vec<u8>, limit: usize) -> Result<(), Fault>
+    requires { vec_len bytes.old ≤ limit }
+    ensures { vec_len bytes.new ≤ limit }
 {
-    let mut at = 0;
-    let mut n = 0;
-    loop {
-        let end = find(text, at, b'+');
-        let filled = item(&text[at..end], buffer, n);
-        let Filled::Bytes(m) = filled else {
-            return filled;
-        };
-        if end == text.len() {
-            return filled;
+    let (digits, times) = parts(text).ok_or(Fault::Unreadable)?;
+    for _ in 0..times {
+        spell(digits, bytes, limit)?;
+    }
+    Ok(())
+}
+
+// The bytes of the byte string that a field is.
+pub fn bytes(alloc: Global, field: &[u8], kind: Kind) -> Result<Vec<u8>, Fault>
+    ensures { IfOk result (λ v. vec_len v ≤ most kind) }
+{
+    let mut bytes = Vec::new(alloc);
+    if field != b"-".as_slice() {
+        for text in field.split(|c| *c == b'+') {
+            item(text, &mut bytes, kind.most())?;
         }
-        at = end + 1;
-        n = m;
     }
-}
-
-// Fills the buffer with the bytes of the byte string that is field k.
-pub fn bytes_at(line: &[u8], k: usize, buffer: &mut [u8]) -> Filled
-    ensures { Within result buffer.new }
-{
-    let text = field(line, k);
-    if text.len() == 1 && text[0] == b'-' {
-        return Filled::Bytes(0);
-    }
-    items(text, buffer)
-}
-
-// The number that is field k.
-pub fn number_at(line: &[u8], k: usize) -> Number {
-    value(field(line, k))
+    Ok(bytes)
 }

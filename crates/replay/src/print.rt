@@ -10,27 +10,9 @@ pub const UNTOUCHED: u8 = 0xee;
 // Words from here on are refusals, the others counts.
 const REFUSALS: u64 = 0x100_0000_0000;
 
-pub fn say(rt: &impl Print, text: &[u8]) -> io::Result<()> {
-    rt.write_all(text)
-}
-
-fn number(rt: &impl Print, n: u64) -> io::Result<()> {
-    say(rt, b" ")?;
-    print!(rt; "{n}")
-}
-
-fn wide(x: u8) -> u64
-    ensures { result < 256 }
-{
-    x as u64
-}
-
 fn hex(rt: &impl Print, s: &[u8]) -> io::Result<()> {
-    let mut i = 0;
-    while i < s.len() {
-        let value = wide(s[i]);
-        print!(rt; "{value:02x}")?;
-        i += 1;
+    for b in s {
+        print!(rt; "{b:02x}")?;
     }
     Ok(())
 }
@@ -38,10 +20,8 @@ fn hex(rt: &impl Print, s: &[u8]) -> io::Result<()> {
 // A checksum that places count in, so that two bytes changed about are seen.
 fn checksum(s: &[u8]) -> u64 {
     let mut sum: u64 = 0;
-    let mut i = 0;
-    while i < s.len() {
-        sum = (sum * 31 + wide(s[i])) % 65521;
-        i += 1;
+    for b in s {
+        sum = (sum * 31 + u64::from(*b)) % 65521;
     }
     sum
 }
@@ -49,60 +29,44 @@ fn checksum(s: &[u8]) -> u64 {
 fn is_touched(s: &[u8]) -> bool
     ensures { TouchedIs s.now result }
 {
-    let mut i = 0;
-    while i < s.len() {
-        if s[i] != UNTOUCHED {
-            return true;
-        }
-        i += 1;
-    }
-    false
+    s.iter().any(|b| *b != UNTOUCHED)
 }
 
 // Lent memory at exit, where it is short enough to read, else its checksum.
 fn memory(rt: &impl Print, s: &[u8]) -> io::Result<()> {
     if s.len() <= 64 {
-        say(rt, b" ")?;
+        print!(rt; " ")?;
         hex(rt, s)
     } else {
-        say(rt, b" sum")?;
-        number(rt, checksum(s))
+        let sum = checksum(s);
+        print!(rt; " sum {sum}")
     }
 }
 
-fn done(rt: &impl Print, count: u64) -> io::Result<()> {
-    say(rt, b"done")?;
-    number(rt, count)
-}
-
-fn refused(rt: &impl Print, word: u64, touched: bool) -> io::Result<()> {
-    say(rt, b"refused")?;
-    number(rt, word / REFUSALS)?;
-    number(rt, word / 0x1_0000 % 0x100_0000)?;
-    number(rt, word % 0x1_0000)?;
-    if touched {
-        say(rt, b" changed")?;
+fn done(rt: &impl Print, count: u64, lent: &[&[u8]]) -> io::Result<()> {
+    print!(rt; "done {count}")?;
+    for s in lent {
+        memory(rt, s)?;
     }
     Ok(())
 }
 
-// The word that an entry gave back, and the output that it left.
-pub fn answer(rt: &impl Print, word: u64, out: &[u8]) -> io::Result<()> {
-    if word < REFUSALS {
-        done(rt, word)?;
-        memory(rt, out)
-    } else {
-        refused(rt, word, is_touched(out))
+fn refused(rt: &impl Print, word: u64, lent: &[&[u8]]) -> io::Result<()> {
+    let reason = word / REFUSALS;
+    let first = word / 0x1_0000 % 0x100_0000;
+    let second = word % 0x1_0000;
+    print!(rt; "refused {reason} {first} {second}")?;
+    if lent.iter().any(|s| is_touched(s)) {
+        print!(rt; " changed")?;
     }
+    Ok(())
 }
 
-// The same where a head was lent as well.
-pub fn answer_with_head(rt: &impl Print, word: u64, head: &[u8], out: &[u8]) -> io::Result<()> {
+// The word that an entry gave back, and the memories that were lent, as it left them.
+pub fn answer(rt: &impl Print, word: u64, lent: &[&[u8]]) -> io::Result<()> {
     if word < REFUSALS {
-        done(rt, word)?;
-        memory(rt, head)?;
-        memory(rt, out)
+        done(rt, word, lent)
     } else {
-        refused(rt, word, is_touched(head) || is_touched(out))
+        refused(rt, word, lent)
     }
 }

@@ -1,29 +1,13 @@
--- `behind_first_line` meets its contract: no line feed stands before the place.
-use mathlib.Core.Path.{refl, sym, ap, ◌∙◌}
-use native.Mathlib.Omega.{arith}
-use lib.ListN.{drop_of_length-le}
-use Rattle.reading.specs.Unsheet.{after_line}
-use Rattle.sheet_rows.proofs.AfterLine.{line-ends, line_goes_on}
+-- `behind_first_line` meets its contract: by the place of the first line feed.
+use Rattle.std.proofs.Common.{sym, ◌∙◌, ◌+◌}
+use Rattle.std.proofs.lemmas.List.{take_rest}
+use Rattle.sheet_rows.proofs.AfterLine.{behind, nothing_behind}
 use Rattle.sheet_rows.proofs.behind_first_line.Goals as goal
 
-pub loop-at-init : goal.loop-at-init
-loop-at-init c = (omega arith, refl)
-
-pub returns-then-text-at-eq-LINE_FEED : goal.returns-then-text-at-eq-LINE_FEED
-returns-then-text-at-eq-LINE_FEED c =
-    let l = c.loop-at in
-    let more = c.loop-at-test.true in
-    (omega arith, sym (line-ends c.args.text.now l.at more c.if-text-at-eq-LINE_FEED.true) ∙ l.invariant.1)
-
-pub loop-at-preserved : goal.loop-at-preserved
-loop-at-preserved c =
-    let l = c.loop-at in
-    let more = c.loop-at-test.true in
-    (omega arith, sym (line_goes_on c.args.text.now l.at more c.if-text-at-eq-LINE_FEED.false) ∙ l.invariant.1)
-
-pub returns : goal.returns
-returns c =
-    let l = c.loop-at in
+pub returns-in-Some : goal.returns-in-Some
+returns-in-Some c =
     let text = c.args.text.now in
-    let over = drop_of_length-le text {i = l.at} (omega arith) in
-    (omega arith, over ∙ sym (sym l.invariant.1 ∙ ap after_line over))
+    take_rest text (c.in-Some.end + 1) ∙ behind text c.in-Some.end (sym c.in-Some.ensures)
+
+pub returns-in-None : goal.returns-in-None
+returns-in-None c = nothing_behind c.args.text.now (sym c.in-None.ensures)

@@ -1,9 +1,0 @@
--- `row_bytes` meets its contract: a repeat is as long as it says, which the law tells without counting.
-use mathlib.Core.Path.{sym}
-use Prim.Native.Nat.{ℕ}
-use lib.ListN.{length-replicate}
-use Rattle.replay.specs.Rooms.{rows}
-use Rattle.replay.proofs.calls.row_bytes.Goals as goal
-
-pub returns : goal.returns
-returns c = sym (length-replicate {0} {A = ℕ} rows 0)

@@ -1,4 +1,5 @@
 // Two's complement without a branch: bits read as a signed number, a signed number's bits, zero minus a number.
+// std's `cast_signed` and `cast_unsigned` branch on the value; its `wrapping_neg` does not.
 #![tactic(auto)]
 
 ghost use Rattle.std.specs.Prelude.{◌≡◌};
@@ -6,57 +7,88 @@ ghost use Rattle.std.specs.Int.{w8, w16};
 ghost use Rattle.std.proofs.Common.{to_z, of_z};
 ghost use Rattle.signs.specs.Wrap.{wrapped_neg, int_wrapped_neg};
 
-// The signed number that has the bits of a: 256 less where the top bit is set.
-pub fn as_i8(a: u8) -> i8
-    ensures { result ≡ to_z w8 a }
-{
-    let top = (a >> 7) as i16;
-    ((a as i16) - (top << 8)) as i8
+/// A number of two's complement, signed or from 0 up.
+pub trait TwosComplement: Copy {
+    /// The type of the same width, signed where this one is not.
+    type Twin;
+
+    ghost same_bits: { Self → Self.Twin };
+
+    ghost negative: { Self → Self };
+
+    /// The number of the other type that has the same bits.
+    fn cast(self) -> Self::Twin
+        ensures { result ≡ same_bits self };
+
+    /// Zero minus the number, wrapped: the lowest number is its own negative.
+    fn negated(self) -> Self
+        ensures { result ≡ negative self };
 }
 
-// The bits of a.
-pub fn as_u8(a: i8) -> u8
-    ensures { result ≡ of_z w8 a }
-{
-    ((a as i16) & 255) as u8
+impl TwosComplement for u8 {
+    type Twin = i8;
+
+    ghost same_bits = { to_z w8 };
+
+    ghost negative = { wrapped_neg w8 };
+
+    // 256 less where the top bit is set.
+    fn cast(self) -> i8 {
+        let top = (self >> 7) as i16;
+        ((self as i16) - (top << 8)) as i8
+    }
+
+    fn negated(self) -> u8 {
+        u8::wrapping_neg(self)
+    }
 }
 
-// The same at 16 bits.
-pub fn as_i16(a: u16) -> i16
-    ensures { result ≡ to_z w16 a }
-{
-    let top = (a >> 15) as i32;
-    ((a as i32) - (top << 16)) as i16
+impl TwosComplement for i8 {
+    type Twin = u8;
+
+    ghost same_bits = { of_z w8 };
+
+    ghost negative = { int_wrapped_neg w8 };
+
+    fn cast(self) -> u8 {
+        ((self as i16) & 255) as u8
+    }
+
+    fn negated(self) -> i8 {
+        i8::wrapping_neg(self)
+    }
 }
 
-pub fn as_u16(a: i16) -> u16
-    ensures { result ≡ of_z w16 a }
-{
-    ((a as i32) & 65535) as u16
+impl TwosComplement for u16 {
+    type Twin = i16;
+
+    ghost same_bits = { to_z w16 };
+
+    ghost negative = { wrapped_neg w16 };
+
+    // 65536 less where the top bit is set.
+    fn cast(self) -> i16 {
+        let top = (self >> 15) as i32;
+        ((self as i32) - (top << 16)) as i16
+    }
+
+    fn negated(self) -> u16 {
+        u16::wrapping_neg(self)
+    }
 }
 
-// Zero minus a, modulo 256: the wrapping subtraction of std has a branch.
-pub fn wrapping_neg_u8(a: u8) -> u8
-    ensures { result ≡ wrapped_neg w8 a }
-{
-    ((256 - (a as u16)) & 255) as u8
-}
+impl TwosComplement for i16 {
+    type Twin = u16;
 
-fn wrapping_neg_u16(a: u16) -> u16
-    ensures { result ≡ wrapped_neg w16 a }
-{
-    ((65536 - (a as u32)) & 65535) as u16
-}
+    ghost same_bits = { of_z w16 };
 
-// Zero minus a, wrapped: -128 is its own negative.
-pub fn wrapping_neg_i8(a: i8) -> i8
-    ensures { result ≡ int_wrapped_neg w8 a }
-{
-    as_i8(wrapping_neg_u8(as_u8(a)))
-}
+    ghost negative = { int_wrapped_neg w16 };
 
-pub fn wrapping_neg_i16(a: i16) -> i16
-    ensures { result ≡ int_wrapped_neg w16 a }
-{
-    as_i16(wrapping_neg_u16(as_u16(a)))
+    fn cast(self) -> u16 {
+        ((self as i32) & 65535) as u16
+    }
+
+    fn negated(self) -> i16 {
+        i16::wrapping_neg(self)
+    }
 }

@@ -1,23 +1,23 @@
 -- The mask, at any width: a number joined with its wrapped negative has its sign bit set where it is not 0, and only there.
 -- Assumes nothing.
-use mathlib.Core.Path.{◌≡◌, ap, ◌∙◌}
+use mathlib.Core.Path.{◌≡◌, refl, sym, ap, ◌∙◌, subst}
 use mathlib.Core.Bool.{Bool}
 use Prim.Native.Nat.{ℕ, zero, suc, ◌-◌, ◌%◌, ◌^◌, ◌≤◌, ◌<◌}
 use native.Mathlib.Nat.{sub-zero, mod_self, zero-div, div-eq_of_lt, mod-eq_of_lt, zero-lt-suc}
 use native.Mathlib.Omega.{arith}
 use borrow.Author.Tests.{le-ltb}
 use lib.Bits.{bit_or, or_add_and, and_le_l, and_le_r, or_lt}
-use lib.IntN.{ℤ, pos, negsuc}
+use lib.IntN.{ℤ, pos, negsuc, neg_ℤ, ◌+ℤ◌}
 use lib.Pow.{pow_pos}
 use lib.Signed.{shr_z}
 use mir.Syntax.{Width}
 use mir.Val.{bits, hbits, SFits, of_z, to_z, sel}
 use mir.ValLaws.{pow-bits, half_full, to_z_pos, to_z-of_z, of_z-to_z, of_z_fits, Fits-wrap}
 use Rattle.signs.specs.Wrap.{wrapped_neg, int_wrapped_neg}
-use Rattle.signs.proofs.Signs.{held}
 use Rattle.zero.specs.Mask.{nonzero_mask, SignOfJoin}
+use Rattle.zero.specs.Zero.{int_is_zero, int_is_not_zero}
 
-pub wrapped_zero : (w : Width) → wrapped_neg w 0 ≡ 0
+wrapped_zero : (w : Width) → wrapped_neg w 0 ≡ 0
 wrapped_zero w = ap (λ (x : ℕ). x % 2 ^ bits w) (sub-zero (2 ^ bits w)) ∙ mod_self (2 ^ bits w)
 
 wrapped_more : (w : Width) {n : ℕ} → 0 < n → n < 2 ^ bits w → wrapped_neg w n ≡ 2 ^ bits w - n
@@ -42,15 +42,32 @@ join_sign w (pos zero) f =
 join_sign w (pos (suc n)) f = sign_set w (zero-lt-suc n) (half_full w f.sfits)
 join_sign w (negsuc n) f = sign_set w (omega (arith, pow-bits w, f.sfits)) (of_z_fits w (negsuc n) f).fits
 
-pub mask_fits : (w : Width) (a : ℤ) → SFits w (nonzero_mask a)
-mask_fits w (pos zero) = record { sfits = pow_pos (hbits w) }
-mask_fits w (pos (suc n)) = record { sfits = pow_pos (hbits w) }
-mask_fits w (negsuc n) = record { sfits = pow_pos (hbits w) }
+-- the mask read again at a width that holds it
+pub again : (w : Width) (a : ℤ) {m : ℤ} → m ≡ nonzero_mask a → to_z w (of_z w m) ≡ nonzero_mask a
+again w a e = ap (λ (z : ℤ). to_z w (of_z w z)) e ∙ to_z-of_z w (nonzero_mask a) (fits a)
+  where
+    fits : (z : ℤ) → SFits w (nonzero_mask z)
+    fits (pos zero) = record { sfits = pow_pos (hbits w) }
+    fits (pos (suc n)) = record { sfits = pow_pos (hbits w) }
+    fits (negsuc n) = record { sfits = pow_pos (hbits w) }
 
 -- the code's way: r is what the wrapped negative was answered as
-pub mask : (w : Width) (a : ℤ) {r : ℤ} → SFits w a → r ≡ int_wrapped_neg w (held w a)
-    → held w (shr_z (to_z w (bit_or (of_z w a) (of_z w r))) (2 ^ hbits w)) ≡ nonzero_mask a
+pub mask : (w : Width) (a : ℤ) {r : ℤ} → SFits w a → r ≡ int_wrapped_neg w (to_z w (of_z w a))
+    → to_z w (of_z w (shr_z (to_z w (bit_or (of_z w a) (of_z w r))) (2 ^ hbits w))) ≡ nonzero_mask a
 mask w a f e =
-    ap (λ (n : ℕ). held w (shr_z (to_z w (bit_or (of_z w a) n)) (2 ^ hbits w)))
+    again w a (ap (λ (n : ℕ). shr_z (to_z w (bit_or (of_z w a) n)) (2 ^ hbits w))
     (ap (of_z w) (e ∙ ap (int_wrapped_neg w) (to_z-of_z w a f)) ∙ of_z-to_z w (wrapped_neg w (of_z w a)) (Fits-wrap w (2 ^ bits w - of_z w a)))
-    ∙ ap (held w) (join_sign w a f) ∙ to_z-of_z w (nonzero_mask a) (mask_fits w a)
+    ∙ join_sign w a f)
+
+-- what the tests make of the mask
+pub record Answers (m a : ℤ) : Type 0 where
+  pub plus_one : m +ℤ pos 1 ≡ pos (int_is_zero a)
+  pub negated : neg_ℤ m ≡ pos (int_is_not_zero a)
+
+answers : (a : ℤ) → Answers (nonzero_mask a) a
+answers (pos zero) = record { plus_one = refl; negated = refl }
+answers (pos (suc n)) = record { plus_one = refl; negated = refl }
+answers (negsuc n) = record { plus_one = refl; negated = refl }
+
+pub answered : (a : ℤ) {m : ℤ} → m ≡ nonzero_mask a → Answers m a
+answered a e = subst (λ (m : ℤ). Answers m a) (sym e) (answers a)

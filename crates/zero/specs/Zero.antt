@@ -18,7 +18,7 @@ is_zero_bytes [] = 1
 is_zero_bytes (zero ∷ bs) = is_zero_bytes bs
 is_zero_bytes (suc b ∷ bs) = 0
 
--- the other of the two answers
+-- the other of the two answers, as `ct_is_not_zero` has it at each type
 abbrev pub is_not_zero : ℕ → ℕ
 is_not_zero n = 1 - is_zero n
 

@@ -1,96 +1,80 @@
 // Document 01's module 1: the zero tests.
 #![tactic(auto)]
 
-ghost use Rattle.std.specs.Prelude.{◌≡◌};
-ghost use Rattle.zero.specs.Zero.{is_zero, int_is_zero, is_zero_bytes, is_not_zero, int_is_not_zero, is_not_zero_bytes};
-ghost use Rattle.zero.specs.Mask.{nonzero_mask};
+ghost use Rattle.std.specs.Prelude.{◌≡◌, ℕ, ◌-◌, pos, ◌+ℤ◌, neg_ℤ};
+ghost use Rattle.zero.specs.Zero.{is_zero, int_is_zero, is_zero_bytes};
 
-// A number joined with its wrapped negative, and the sign shifted down: -1 where it is not 0, else 0.
-fn nonzero_mask_i8(a: i8) -> i8
-    ensures { result ≡ nonzero_mask a }
-{
-    let negative = signs::wrapping_neg_i8(a);
-    (a | negative) >> 7
+use signs::TwosComplement;
+
+/// A value that is tested for being zero, without a branch on it.
+pub trait CtIsZero {
+    ghost zero_bit: { Self → ℕ };
+
+    /// -1, all bits set, where the value is not zero, else 0: plus one it is the one answer, negated it is the other.
+    fn nonzero_mask(&self) -> i8
+        ensures plus_one { result +ℤ pos 1 ≡ pos (zero_bit self.now) }
+        ensures negated { neg_ℤ result ≡ pos (1 - zero_bit self.now) };
+
+    /// 1 where the value is zero, else 0.
+    fn ct_is_zero(&self) -> u8
+        ensures { result ≡ zero_bit self.now }
+    {
+        (self.nonzero_mask() + 1) as u8
+    }
+
+    /// 1 where the value is not zero, else 0.
+    fn ct_is_not_zero(&self) -> u8
+        ensures { result ≡ 1 - zero_bit self.now }
+    {
+        self.nonzero_mask().negated() as u8
+    }
 }
 
-fn nonzero_mask_i16(a: i16) -> i16
-    ensures { result ≡ nonzero_mask a }
-{
-    let negative = signs::wrapping_neg_i16(a);
-    (a | negative) >> 15
+// A signed number joined with its wrapped negative, and the sign shifted down.
+impl CtIsZero for i8 {
+    ghost zero_bit = { int_is_zero };
+
+    fn nonzero_mask(&self) -> i8 {
+        (*self | self.negated()) >> 7
+    }
 }
 
-// 1 where a is 0, else 0.
-pub fn ct_is_zero_i8(a: i8) -> u8
-    ensures { result ≡ int_is_zero a }
-{
-    (nonzero_mask_i8(a) + 1) as u8
+impl CtIsZero for i16 {
+    ghost zero_bit = { int_is_zero };
+
+    fn nonzero_mask(&self) -> i8 {
+        ((*self | self.negated()) >> 15) as i8
+    }
 }
 
-pub fn ct_is_zero_i16(a: i16) -> u8
-    ensures { result ≡ int_is_zero a }
-{
-    (nonzero_mask_i16(a) + 1) as u8
+// A number from 0 up goes by the signed number that has its bits.
+impl CtIsZero for u8 {
+    ghost zero_bit = { is_zero };
+
+    fn nonzero_mask(&self) -> i8 {
+        let signed: i8 = self.cast();
+        signed.nonzero_mask()
+    }
 }
 
-pub fn ct_is_zero_u8(a: u8) -> u8
-    ensures { result ≡ is_zero a }
-{
-    ct_is_zero_i8(signs::as_i8(a))
-}
+impl CtIsZero for u16 {
+    ghost zero_bit = { is_zero };
 
-pub fn ct_is_zero_u16(a: u16) -> u8
-    ensures { result ≡ is_zero a }
-{
-    ct_is_zero_i16(signs::as_i16(a))
-}
-
-// 1 where a is not 0, else 0.
-pub fn ct_is_not_zero_i8(a: i8) -> u8
-    ensures { result ≡ int_is_not_zero a }
-{
-    signs::wrapping_neg_i8(nonzero_mask_i8(a)) as u8
-}
-
-pub fn ct_is_not_zero_i16(a: i16) -> u8
-    ensures { result ≡ int_is_not_zero a }
-{
-    signs::wrapping_neg_i16(nonzero_mask_i16(a)) as u8
-}
-
-pub fn ct_is_not_zero_u8(a: u8) -> u8
-    ensures { result ≡ is_not_zero a }
-{
-    ct_is_not_zero_i8(signs::as_i8(a))
-}
-
-pub fn ct_is_not_zero_u16(a: u16) -> u8
-    ensures { result ≡ is_not_zero a }
-{
-    ct_is_not_zero_i16(signs::as_i16(a))
+    fn nonzero_mask(&self) -> i8 {
+        let signed: i16 = self.cast();
+        signed.nonzero_mask()
+    }
 }
 
 // All bytes joined: 0 where each of them is.
-fn joined(s: &[u8]) -> u8
-    ensures { is_zero result ≡ is_zero_bytes s.now }
-{
-    let mut t = 0u8;
-    let mut i = 0;
-    while i < s.len() {
-        t |= s[i];
-        i += 1;
+impl CtIsZero for &[u8] {
+    ghost zero_bit = { λ s. is_zero_bytes s.now };
+
+    fn nonzero_mask(&self) -> i8 {
+        let mut t = 0u8;
+        for b in *self {
+            t |= *b;
+        }
+        t.nonzero_mask()
     }
-    t
-}
-
-pub fn ct_is_zero_bytes(s: &[u8]) -> u8
-    ensures { result ≡ is_zero_bytes s.now }
-{
-    ct_is_zero_u8(joined(s))
-}
-
-pub fn ct_is_not_zero_bytes(s: &[u8]) -> u8
-    ensures { result ≡ is_not_zero_bytes s.now }
-{
-    ct_is_not_zero_u8(joined(s))
 }

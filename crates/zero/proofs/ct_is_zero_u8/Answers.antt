@@ -1,8 +1,0 @@
--- The bits of a, read as signed, are 0 exactly where a is.
-use mathlib.Core.Path.{◌∙◌}
-use mir.Syntax.{w8}
-use Rattle.zero.proofs.Answers.{read-zero}
-use Rattle.zero.proofs.ct_is_zero_u8.Goals as goal
-
-pub returns : goal.returns
-returns c = c.ct_is_zero_i8.ensures ∙ read-zero w8 c.args.a c.ranges.a c.as_i8.ensures

@@ -1,20 +1,37 @@
 // Runs one line: reads a call's fields in their order, but T and N last, makes the call and prints its answer.
 ghost use Rattle.std.specs.Prelude.{◌≤◌, IfOk, false, vec_len};
-ghost use Rattle.replay.specs.Rooms.{most};
 ghost use Rattle.replay.specs.Touched.{TouchedIs};
 
-use crate::parse::{Fault, Kind, bytes, number};
+use crate::parse::{Fault, bytes, number};
 use crate::print;
+use row_set::MAX_SECRET;
 use std::alloc::Global;
 use std::io;
 
+// What is kept of each field: more than the entries take, so that their limits are met from either side.
+
+// Of a secret, and of coefficients.
+const VALUES: usize = MAX_SECRET + 104;
+
+// Of an output, a head and a sheet's text: three of the longest rows, or the sheet of one.
+const OUTPUT: usize = 3 * (MAX_SECRET + 4);
+
+// Of identifiers.
+const IDS: usize = 300;
+
+// Of rows: two of the longest, or as many of the shortest as are ever taken.
+const ROWS: usize = 2 * MAX_SECRET + 140000;
+
+// Of lengths: three more than are ever taken.
+const LENGTHS: usize = 262152;
+
 // Memory to lend: so much of it as the field asks for.
 fn lent(alloc: Global, field: &[u8]) -> Result<Vec<u8>, Fault>
-    ensures room { IfOk result (λ v. vec_len v ≤ most Kind.Output) }
+    ensures room { IfOk result (λ v. vec_len v ≤ OUTPUT) }
     ensures untouched { IfOk result (λ v. TouchedIs v.items false) }
 {
     let n = number(field)?;
-    if n > Kind::Output.most() {
+    if n > OUTPUT {
         return Err(Fault::TooLarge);
     }
     Ok(vec![in alloc; print::UNTOUCHED; n]?)
@@ -25,9 +42,9 @@ fn split<R: Print + AllocGlobal>(
     [threshold, limit, secret, ids, coefficients, room]: [&[u8]; 6],
 ) -> Result<(), Fault> {
     let alloc = rt.alloc();
-    let secret = bytes(alloc, secret, Kind::Values)?;
-    let ids = bytes(alloc, ids, Kind::Ids)?;
-    let coefficients = bytes(alloc, coefficients, Kind::Values)?;
+    let secret = bytes::<VALUES>(alloc, secret)?;
+    let ids = bytes::<IDS>(alloc, ids)?;
+    let coefficients = bytes::<VALUES>(alloc, coefficients)?;
     let mut out = lent(alloc, room)?;
     let threshold = number(threshold)?;
     let limit = number(limit)?;
@@ -37,8 +54,8 @@ fn split<R: Print + AllocGlobal>(
 
 fn combine<R: Print + AllocGlobal>(rt: &R, [rows, lengths, room]: [&[u8]; 3]) -> Result<(), Fault> {
     let alloc = rt.alloc();
-    let rows = bytes(alloc, rows, Kind::Rows)?;
-    let lengths = bytes(alloc, lengths, Kind::Lengths)?;
+    let rows = bytes::<ROWS>(alloc, rows)?;
+    let lengths = bytes::<LENGTHS>(alloc, lengths)?;
     let mut out = lent(alloc, room)?;
     let word = vsss::vsss_combine_bytes(&rows, &lengths, &mut out);
     Ok(print::answer(rt, word, &[&out])?)
@@ -49,8 +66,8 @@ fn sheet<R: Print + AllocGlobal>(
     [threshold, rows, lengths, room]: [&[u8]; 4],
 ) -> Result<(), Fault> {
     let alloc = rt.alloc();
-    let rows = bytes(alloc, rows, Kind::Rows)?;
-    let lengths = bytes(alloc, lengths, Kind::Lengths)?;
+    let rows = bytes::<ROWS>(alloc, rows)?;
+    let lengths = bytes::<LENGTHS>(alloc, lengths)?;
     let mut out = lent(alloc, room)?;
     let threshold = number(threshold)?;
     let word = vsss::vsss_write_sheet(threshold, &rows, &lengths, &mut out);
@@ -59,7 +76,7 @@ fn sheet<R: Print + AllocGlobal>(
 
 fn read<R: Print + AllocGlobal>(rt: &R, [text, head_room, room]: [&[u8]; 3]) -> Result<(), Fault> {
     let alloc = rt.alloc();
-    let text = bytes(alloc, text, Kind::Output)?;
+    let text = bytes::<OUTPUT>(alloc, text)?;
     let mut head = lent(alloc, head_room)?;
     let mut out = lent(alloc, room)?;
     let word = vsss::vsss_read_sheet(&text, &mut head, &mut out);

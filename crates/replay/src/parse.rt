@@ -1,8 +1,6 @@
 // Reads the fields of a call: numbers and byte strings.
 ghost use Rattle.std.specs.Prelude.{◌≡◌, ◌≤◌, ◌<◌, IfOk, IfSome, vec_len};
-ghost use Rattle.replay.specs.Rooms.{most};
 
-use row_set::MAX_SECRET;
 use std::alloc::{AllocError, AllocFailed, Global};
 use std::io;
 
@@ -29,36 +27,6 @@ impl From<AllocError> for Fault {
 impl<T: Drop> From<AllocFailed<T>> for Fault {
     fn from(e: AllocFailed<T>) -> Fault {
         Fault::Io(e.into())
-    }
-}
-
-// What a field is for, and so how many bytes of it are kept.
-#[derive(Clone, Copy)]
-pub enum Kind {
-    // A secret, and coefficients.
-    Values,
-    Ids,
-    Rows,
-    Lengths,
-    // An output, a head and a sheet's text.
-    Output,
-}
-
-impl Kind {
-    // More than the entries take, so that their limits are met from either side.
-    pub fn most(self) -> usize
-        ensures { result ≡ most self }
-    {
-        match self {
-            Kind::Values => MAX_SECRET + 104,
-            Kind::Ids => 300,
-            // Two of the longest, or as many of the shortest as are ever taken.
-            Kind::Rows => 2 * MAX_SECRET + 140000,
-            // Three more than are ever taken.
-            Kind::Lengths => 262152,
-            // Three of the longest rows, or the sheet of one.
-            Kind::Output => 3 * (MAX_SECRET + 4),
-        }
     }
 }
 
@@ -95,25 +63,6 @@ fn byte(high: u8, low: u8) -> Option<u8> {
     Some(digit(high)? * 16 + digit(low)?)
 }
 
-// Puts the bytes that the digits spell behind those that are there.
-fn spell(digits: &[u8], bytes: &mut Vec<u8>, limit: usize) -> Result<(), Fault>
-    requires { vec_len bytes.old ≤ limit }
-    ensures { vec_len bytes.new ≤ limit }
-{
-    let (pairs, rest) = digits.as_chunks::<2>();
-    for [high, low] in pairs {
-        let b = byte(*high, *low).ok_or(Fault::Unreadable)?;
-        if bytes.len() == limit {
-            return Err(Fault::TooLarge);
-        }
-        bytes.push(b)?;
-    }
-    if pairs.is_empty() || !rest.is_empty() {
-        return Err(Fault::Unreadable);
-    }
-    Ok(())
-}
-
 // The digits of an item and how often they are to be repeated. A count of 0 would let digits go unread, and is none.
 fn parts(item: &[u8]) -> Option<(&[u8], usize)> {
     let Some(star) = item.iter().position(|c| *c == b'*') else {
@@ -126,27 +75,62 @@ fn parts(item: &[u8]) -> Option<(&[u8], usize)> {
     Some((&item[..star], times))
 }
 
-// Puts the bytes of one item behind those that are there. The limit ends it where the count is beyond all sense.
-fn item(text: &[u8], bytes: &mut Vec<u8>, limit: usize) -> Result<(), Fault>
-    requires { vec_len bytes.old ≤ limit }
-    ensures { vec_len bytes.new ≤ limit }
-{
-    let (digits, times) = parts(text).ok_or(Fault::Unreadable)?;
-    for _ in 0..times {
-        spell(digits, bytes, limit)?;
-    }
-    Ok(())
+// The bytes of a field so far, MOST at most.
+#[derive(Drop)]
+struct Kept<const MOST: usize> {
+    bytes: Vec<u8>,
+    ghost within: { vec_len bytes ≤ MOST },
 }
 
-// The bytes of the byte string that a field is.
-pub fn bytes(alloc: Global, field: &[u8], kind: Kind) -> Result<Vec<u8>, Fault>
-    ensures { IfOk result (λ v. vec_len v ≤ most kind) }
-{
-    let mut bytes = Vec::new(alloc);
-    if field != b"-".as_slice() {
-        for text in field.split(|c| *c == b'+') {
-            item(text, &mut bytes, kind.most())?;
+impl<const MOST: usize> Kept<MOST> {
+    fn put(&mut self, b: u8) -> Result<(), Fault> {
+        if self.bytes.len() == MOST {
+            return Err(Fault::TooLarge);
         }
+        Ok(self.bytes.push(b)?)
     }
+
+    // Puts the bytes that the digits spell.
+    fn spell(&mut self, digits: &[u8]) -> Result<(), Fault> {
+        let (pairs, rest) = digits.as_chunks::<2>();
+        for [high, low] in pairs {
+            let b = byte(*high, *low).ok_or(Fault::Unreadable)?;
+            self.put(b)?;
+        }
+        if pairs.is_empty() || !rest.is_empty() {
+            return Err(Fault::Unreadable);
+        }
+        Ok(())
+    }
+
+    // Puts the bytes of one item. The limit ends it where the count is beyond all sense.
+    fn item(&mut self, text: &[u8]) -> Result<(), Fault> {
+        let (digits, times) = parts(text).ok_or(Fault::Unreadable)?;
+        for _ in 0..times {
+            self.spell(digits)?;
+        }
+        Ok(())
+    }
+
+    // Puts the bytes of all items of a byte string.
+    fn items(&mut self, text: &[u8]) -> Result<(), Fault> {
+        for item in text.split(|c| *c == b'+') {
+            self.item(item)?;
+        }
+        Ok(())
+    }
+}
+
+// The bytes of the byte string that a field is, so many at most.
+pub fn bytes<const MOST: usize>(alloc: Global, field: &[u8]) -> Result<Vec<u8>, Fault>
+    ensures { IfOk result (λ v. vec_len v ≤ MOST) }
+{
+    let mut kept = Kept::<MOST> {
+        bytes: Vec::new(alloc),
+    };
+    if field != b"-".as_slice() {
+        kept.items(field)?;
+    }
+    let Kept { bytes } = kept;
     Ok(bytes)
 }

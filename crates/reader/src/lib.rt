@@ -2,6 +2,7 @@
 #![tactic(auto)]
 
 mod decode;
+mod head;
 mod judge;
 mod lines;
 mod read;

@@ -1,6 +1,7 @@
 // Sets of rows as text: the sheets of document 02, §1.
 #![tactic(auto)]
 
+mod head;
 mod length;
 mod put;
 mod write;

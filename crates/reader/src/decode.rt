@@ -5,8 +5,8 @@ ghost use Rattle.rows.specs.Lengths.{four_bytes};
 ghost use Rattle.sheets.specs.ReadAs.{IsHexDigit, unhex_digit, unhex};
 ghost use Rattle.reader.specs.Taking.{SomeRow, TakesRow, SomeRows, TakesRows};
 
-use crate::head::Head;
 use crate::lines::read_start;
+use sheets::Head;
 
 // The value of a digit of hex: the letters follow on the digits 9 further.
 fn hex_value(c: u8) -> u8

@@ -3,8 +3,8 @@ ghost use Rattle.std.specs.Prelude.{◌≡◌, ℕ, List, [], MatchResult};
 ghost use Rattle.reading.specs.Unsheet.{not_at, unrows};
 ghost use Rattle.reader.specs.Taking.{SomeRows};
 
-use crate::head::Head;
 use crate::lines::read_row;
+use sheets::Head;
 
 // Identifiers are bytes.
 const BYTES: usize = 256;

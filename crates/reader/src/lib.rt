@@ -2,7 +2,6 @@
 #![tactic(auto)]
 
 mod decode;
-mod head;
 mod judge;
 mod lines;
 mod read;

@@ -4,8 +4,8 @@ ghost use Rattle.row_set.specs.Limits.{max_secret};
 ghost use Rattle.reading.specs.Unsheet.{not_at, unsheet};
 ghost use Rattle.reader.specs.Taking.{FieldRead, NoField, HeadRead, StartRead, NoStart, RowRead, NoRow};
 
-use crate::head::Head;
 use crate::taking::{all_hex, read_number};
+use sheets::Head;
 
 // The number of a field, a tab and digits, where it is in range.
 fn read_field(text: &[u8], least: usize, most: usize) -> Option<(usize, &[u8])>

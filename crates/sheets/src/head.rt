@@ -1,4 +1,4 @@
-// The numbers of a first line.
+// The numbers of a first line: the threshold, how many rows there are, and how many values each has.
 ghost use Rattle.std.specs.Prelude.{◌≤◌};
 ghost use Rattle.row_set.specs.Limits.{max_secret, max_shares, max_rows};
 

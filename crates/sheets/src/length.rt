@@ -12,19 +12,13 @@ pub fn decimal_length(n: usize) -> usize
     requires { n < 100000 }
     ensures { (result ≡ length (decimal n)) × (result ≤ 5) }
 {
-    if n < 10 {
-        return 1;
+    match n {
+        0..=9 => 1,
+        10..=99 => 2,
+        100..=999 => 3,
+        1000..=9999 => 4,
+        _ => 5,
     }
-    if n < 100 {
-        return 2;
-    }
-    if n < 1000 {
-        return 3;
-    }
-    if n < 10000 {
-        return 4;
-    }
-    5
 }
 
 // Of the first line: its word, three tabs, a line feed, and three numbers.

@@ -6,6 +6,7 @@ mod length;
 mod put;
 mod write;
 
+pub use head::Head;
 pub use length::{decimal_length, head_length, row_length};
 pub use put::{LINE_FEED, TAB};
 pub use write::write_sheet;

@@ -42,8 +42,8 @@ fn write_hex(out: &mut [u8], values: &[u8])
 // An output that is written up to a place.
 #[derive(Drop)]
 pub struct Page<'a> {
-    pub out: &'a mut [u8],
-    pub end: usize,
+    out: &'a mut [u8],
+    end: usize,
 }
 
 impl<'a> Page<'a> {

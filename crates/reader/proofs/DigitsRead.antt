@@ -5,26 +5,25 @@ use mathlib.Core.Bool.{true, false}
 use mathlib.Core.List.{List, [], ◌∷◌, ◌++◌}
 use Prim.Native.Nat.{ℕ, zero, suc, min, ◌+◌, ◌*◌, ◌-◌, ◌^◌, ◌<◌, ◌≤◌}
 use native.Mathlib.Decide.{dec_lt}
-use native.Mathlib.Nat.{pow-suc, pow-le-pow_right}
-use native.Mathlib.Numerals.{add-one}
+use native.Mathlib.Nat.{pow-le-pow_right}
 use native.Mathlib.Omega.{arith}
 use lib.ListN.{length, get_or, take, drop, length-append, take-append-drop, get_or-append}
-use lib.Seq.{take-suc, take_at, length-take-le, get_or-take}
+use lib.Seq.{take_at, length-take-le, get_or-take}
 use Rattle.shamir.specs.Lists.{All}
-use Rattle.shamir.proofs.Lists.{all_append, all_in}
+use Rattle.shamir.proofs.Lists.{all_in}
 use Rattle.sheets.specs.Text.{decimal}
 use Rattle.sheets.specs.ReadAs.{IsDigit}
 use Rattle.reader.specs.Taking.{NumberRead, NoNumber}
 use Rattle.sheets.specs.ReadAs.{value_from, value}
 use Rattle.sheets.proofs.Decimal.{decimal-short}
-use Rattle.sheets.proofs.DecimalValue.{decimal-digits, value-append, value-decimal}
+use Rattle.sheets.proofs.DecimalValue.{decimal-digits, value-decimal}
 
 -- the two answers of a test are apart
 pub yes-no : {P : Type 0} → true ≡ false → P
-yes-no e = absurd (let z : ◌≡◌ {A = ℕ} 0 1 = cc in omega arith)
+yes-no e = cc
 
 pub no-yes : {P : Type 0} → false ≡ true → P
-no-yes e = absurd (let z : ◌≡◌ {A = ℕ} 0 1 = cc in omega arith)
+no-yes e = cc
 
 -- digits of one length tell their value, and the value of those before them
 digits-told : (v w : ℕ) (xs ys : List ℕ) → All IsDigit xs → All IsDigit ys → length xs ≡ length ys → value_from v xs ≡ value_from w ys → (v ≡ w) × (xs ≡ ys)
@@ -51,25 +50,10 @@ pub record Digits (xs : List ℕ) (k v : ℕ) : Type 0 where
   pub valued : v ≡ value (take k xs)
   pub bound : v < 10 ^ k
 
-pub no-digits : (xs : List ℕ) → Digits xs 0 0
-no-digits xs = record { few = omega arith; inside = omega arith; digits = tt; valued = refl; bound = omega arith }
-
 pub small : {xs : List ℕ} {k v : ℕ} → Digits xs k v → v < 100000
 small {xs} {k} {v} d =
     let p : 10 ^ k ≤ 10 ^ 5 = pow-le-pow_right (omega arith) d.few in
     omega (arith, d.bound)
-
-pub one_more : {xs : List ℕ} {k v : ℕ} (c : ℕ) → Digits xs k v → k < 5 → k < length xs → c ≡ get_or xs k 0 → 48 ≤ c → c ≤ 57 → Digits xs (k + 1) (v * 10 + (c - 48))
-one_more {xs} {k} {v} c d few more is low high =
-    let step : take (k + 1) xs ≡ take k xs ++ (c ∷ []) = ap (λ n. take n xs) (add-one k) ∙ take-suc xs k 0 more ∙ ap (λ x. take k xs ++ (x ∷ [])) (sym is) in
-    let power : 10 ^ (k + 1) ≡ 10 ^ k * 10 = ap (10 ^◌) (add-one k) ∙ pow-suc 10 k in
-    record {
-      few = omega arith;
-      inside = omega arith;
-      digits = rw step (all_append IsDigit (take k xs) (c ∷ []) d.digits ((low, high), tt));
-      valued = ap (λ x. x * 10 + (c - 48)) d.valued ∙ sym (ap value step ∙ value-append 0 (take k xs) (c ∷ []));
-      bound = omega (arith, d.bound, power);
-    }
 
 -- digits do not go beyond a character that is none
 no_further : (k : ℕ) (ds : List ℕ) (c : ℕ) (rest : List ℕ) → (IsDigit c → ⊥) → All IsDigit (take k (ds ++ c ∷ rest)) → k ≤ length ds

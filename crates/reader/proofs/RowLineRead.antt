@@ -38,19 +38,10 @@ count l row g = length-hex (drop 1 row) ∙ omega (arith, length-drop 1 row, g.l
 
 -- ---- its start
 
--- without the tab behind the identifier there is no start, ..
+-- without the tab behind the identifier there is no start
 pub no-tab : (text text₁ text₂ : List ℕ) {id : ℕ} → text ≡ row_word ++ text₁ → FieldRead text₁ 1 max_shares id text₂ → ((rest : List ℕ) → text₂ ≡ 9 ∷ rest → ⊥) → NoStart text
 no-tab text text₁ text₂ word field none m others low high f =
     none others (field_told field m 9 others low high tab-ends (append_cancel_left row_word text₁ _ (sym word ∙ f ∙ start_is m others))).1
-
--- .. and with all of it there is one
-pub start_passes : (text text₁ text₂ rest : List ℕ) {id : ℕ} → text ≡ row_word ++ text₁ → FieldRead text₁ 1 max_shares id text₂ → text₂ ≡ 9 ∷ rest → StartRead text id rest
-start_passes text text₁ text₂ rest {id} word field parted = record {
-  low = field.low;
-  high = field.high;
-  stands = word ∙ ap (row_word ++◌) (field.stands ∙ ap (λ x. 9 ∷ (decimal id ++ x)) parted) ∙ sym (start_is id rest);
-  only = λ m others low high f. field.only m 9 others low high tab-ends (append_cancel_left row_word text₁ _ (sym word ∙ f ∙ start_is m others));
-}
 
 -- ---- its values
 

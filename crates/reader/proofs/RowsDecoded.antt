@@ -2,38 +2,26 @@
 -- Assumes nothing.
 use mathlib.Core.Path.{◌≡◌, sym, ap, ◌∙◌, subst}
 use mathlib.Core.List.{List, [], ◌∷◌, ◌++◌, append_assoc, append-nil}
-use Prim.Native.Nat.{ℕ, zero, suc, ◌+◌, ◌-◌, ◌<◌, ◌≤◌}
-use native.Mathlib.Nat.{zero-add}
+use Prim.Native.Nat.{ℕ, zero, suc, ◌+◌, ◌-◌, ◌<◌}
 use native.Mathlib.Numerals.{add-one}
 use native.Mathlib.Omega.{arith}
 use lib.ListN.{length, get_or, take, drop}
-use lib.Seq.{drop-cons, take_all}
+use lib.Seq.{drop-cons}
 use borrow.Rule.Slice.PartMut.{put_mid}
 use Rattle.shamir.specs.Lists.{All}
 use Rattle.shamir.proofs.Lists.{all_drop}
 use Rattle.rows.specs.Storage.{laid}
 use Rattle.sheets.specs.Sheet.{row_line, row_lines}
 use Rattle.sheets.specs.Writing.{Puts}
-use Rattle.sheets.proofs.Writing.{puts_nothing, puts_then}
+use Rattle.sheets.proofs.Writing.{puts_then}
 use Rattle.reading.specs.Lines.{Row}
-use Rattle.reader.specs.Taking.{SomeRow, TakesRow, RowsStand, SomeRows, TakesRows}
+use Rattle.reader.specs.Taking.{SomeRow, TakesRow, RowsStand, SomeRows}
 use Rattle.reader.proofs.Decoded.{puts_part}
 
 -- of the rows of a text the first i are decoded, to p, and rest is the others' lines
 pub record TakenTo (text : List ℕ) (m l i : ℕ) (rest : List ℕ) (p : ℕ) (out left : List ℕ) : Type 0 where
   pub others : (rows : List (List ℕ)) → RowsStand text m l rows → rest ≡ row_lines (drop i rows)
   pub puts : (rows : List (List ℕ)) → RowsStand text m l rows → Puts (laid (take i rows)) 0 out p left
-
-pub none_taken : (text : List ℕ) (m l : ℕ) (out : List ℕ) → TakenTo text m l 0 text 0 out out
-none_taken text m l out = record { others = λ rows st. st.stand; puts = λ rows st. puts_nothing 0 out }
-
-pub all_taken : (text : List ℕ) (m l i p : ℕ) (rest out left : List ℕ) → TakenTo text m l i rest p out left → m ≤ i → TakesRows text m l out left
-all_taken text m l i p rest out left t h = record {
-  takes = λ rows st.
-      (t.puts rows st).leaves
-      ∙ ap (λ x. laid x ++ drop (0 + length (laid x)) out) (take_all i rows (omega (arith, st.count)))
-      ∙ ap (λ n. laid rows ++ drop n out) (zero-add (length (laid rows)));
-}
 
 laid_more : (rows : List (List ℕ)) (i : ℕ) → i < length rows → laid (take i rows) ++ get_or rows i [] ≡ laid (take (i + 1) rows)
 laid_more [] i h = absurd (omega arith)

@@ -5,7 +5,7 @@ use mathlib.Core.List.{List, [], ◌∷◌, ◌++◌, append_assoc, append-nil}
 use Prim.Native.Nat.{ℕ, ◌+◌, ◌<◌, ◌≤◌}
 use native.Mathlib.Numerals.{add-one}
 use native.Mathlib.Omega.{arith}
-use lib.ListN.{length, take, drop, set, length-append, length-drop, length-set, take-append-drop, drop_of_length-le}
+use lib.ListN.{length, take, drop, set, length-append, length-drop, length-set, take-append-drop}
 use lib.Seq.{length-take-le, take_at, drop_at, drop-drop, set_split, append_snoc}
 use Rattle.sheets.specs.Writing.{Puts}
 
@@ -70,7 +70,3 @@ puts-length {t} {at} {out} {e} {left} room p =
       length-take-le at out (omega arith),
       length-drop (at + length t) out,
     )
-
--- what is put from the front to the end is all
-pub puts_all : (t out : List ℕ) (n : ℕ) (left : List ℕ) → Puts t 0 out n left → length out ≤ n → left ≡ t
-puts_all t out n left p h = p.leaves ∙ ap (t ++◌) (drop_of_length-le out {i = 0 + length t} (omega (arith, p.ends))) ∙ append-nil t

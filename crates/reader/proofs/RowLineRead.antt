@@ -3,58 +3,47 @@
 use mathlib.Core.Path.{◌≡◌, refl, sym, ap, ap₂, ◌∙◌, subst}
 use mathlib.Core.Logic.{⊎_elim}
 use mathlib.Core.List.{List, [], ◌∷◌, ◌++◌, append_assoc}
-use Prim.Native.Nat.{ℕ, zero, suc, ◌+◌, ◌*◌, ◌/◌, ◌%◌, ◌-◌, ◌<◌}
+use Prim.Native.Nat.{ℕ, zero, suc, ◌+◌, ◌*◌, ◌/◌, ◌%◌, ◌-◌, ◌<◌, ◌≤◌}
 use native.Mathlib.Omega.{arith}
 use lib.ListN.{length, get_or, take, drop, length-append, length-drop, take-append-drop}
-use lib.Seq.{drop-drop, take_at, length-take-le}
+use lib.Seq.{take_at, drop_at, length-take-le}
 use borrow.Author.Tests.{lt-ltb, le-ltb}
+use Rattle.std.proofs.lemmas.List.{append_cancel_left}
 use Rattle.shamir.specs.Lists.{All, Below}
-use Rattle.shamir.proofs.Lists.{all_drop}
+use Rattle.shamir.proofs.Lists.{all_in, all_drop}
 use Rattle.row_set.specs.Limits.{max_shares}
 use Rattle.sheets.specs.Text.{decimal, hex_digit, hex}
 use Rattle.sheets.specs.Sheet.{row_word, row_line}
 use Rattle.sheets.specs.ReadAs.{IsHexDigit, unhex_digit, unhex}
-use Rattle.reading.specs.Lines.{Row}
-use Rattle.reader.specs.Taking.{HexStands, FieldAt, RowAt, row_at}
 use Rattle.sheets.proofs.Hex.{length-hex, hex-digits}
-use Rattle.reader.proofs.WordRead.{behind}
-use Rattle.shamir.proofs.Lists.{all_in}
+use Rattle.reading.specs.Lines.{Row}
+use Rattle.reader.specs.Taking.{FieldRead, row_start, StartRead, NoStart, RowRead, NoRow}
+use Rattle.reader.proofs.FieldRead.{tab-ends, field_told}
 
 pieces : (d h rest : List ℕ) → (d ++ 9 ∷ (h ++ (10 ∷ []))) ++ rest ≡ d ++ 9 ∷ (h ++ 10 ∷ rest)
 pieces d h rest = append_assoc d (9 ∷ (h ++ (10 ∷ []))) rest ∙ ap (λ x. d ++ 9 ∷ x) (append_assoc h (10 ∷ []) rest)
 
--- ---- a row's line stands there
+start_is : (id : ℕ) (rest : List ℕ) → row_start id ++ rest ≡ row_word ++ 9 ∷ (decimal id ++ 9 ∷ rest)
+start_is id rest = ap (λ x. row_word ++ 9 ∷ x) (append_assoc (decimal id) (9 ∷ []) rest)
 
-module _ (text : List ℕ) (at l : ℕ) (row rest : List ℕ) (g : Row l row) (f : drop at text ≡ row_line row ++ rest) where
-  pub field_there : drop (at + 3) text ≡ 9 ∷ (decimal (get_or row 0 0) ++ 9 ∷ (hex (drop 1 row) ++ 10 ∷ rest))
-  field_there = behind text at (at + 3) (114 ∷ 111 ∷ 119 ∷ []) _ f refl ∙ ap (9 ∷◌) (pieces (decimal (get_or row 0 0)) (hex (drop 1 row)) rest)
+-- a row's line is its start, its values and a line feed
+pub line_is : (row rest : List ℕ) → row_line row ++ rest ≡ row_start (get_or row 0 0) ++ (hex (drop 1 row) ++ 10 ∷ rest)
+line_is row rest = ap (λ x. row_word ++ 9 ∷ x) (pieces (decimal (get_or row 0 0)) (hex (drop 1 row)) rest) ∙ sym (start_is (get_or row 0 0) _)
 
-  pub number_there : drop (at + 4) text ≡ decimal (get_or row 0 0) ++ 9 ∷ (hex (drop 1 row) ++ 10 ∷ rest)
-  number_there = behind text at (at + 4) (114 ∷ 111 ∷ 119 ∷ 9 ∷ []) _ f refl ∙ pieces (decimal (get_or row 0 0)) (hex (drop 1 row)) rest
+pub id_small : (l : ℕ) (row : List ℕ) → Row l row → get_or row 0 0 < 256
+id_small l row g = all_in (◌< 256) row 0 (omega (arith, g.long)) g.bytes
 
-  pub id_small : get_or row 0 0 < 256
-  id_small = all_in (◌< 256) row 0 (omega (arith, g.long)) g.bytes
+pub count : (l : ℕ) (row : List ℕ) → Row l row → length (hex (drop 1 row)) ≡ l * 2
+count l row g = length-hex (drop 1 row) ∙ omega (arith, length-drop 1 row, g.long)
 
-  pub tab_there : (q : ℕ) → q ≡ at + 4 + length (decimal (get_or row 0 0)) → drop q text ≡ 9 ∷ (hex (drop 1 row) ++ 10 ∷ rest)
-  tab_there q is = behind text (at + 4) q (decimal (get_or row 0 0)) _ number_there is
+-- ---- its start
 
-  pub values_there : (q : ℕ) → q ≡ at + 4 + length (decimal (get_or row 0 0)) → drop (q + 1) text ≡ hex (drop 1 row) ++ 10 ∷ rest
-  values_there q is = behind text q (q + 1) (9 ∷ []) _ (tab_there q is) refl
+-- without the tab behind the identifier there is no start
+pub no-tab : (text text₁ text₂ : List ℕ) {id : ℕ} → text ≡ row_word ++ text₁ → FieldRead text₁ 1 max_shares id text₂ → ((rest : List ℕ) → text₂ ≡ 9 ∷ rest → ⊥) → NoStart text
+no-tab text text₁ text₂ word field none m others low high f =
+    none others (field_told field m 9 others low high tab-ends (append_cancel_left row_word text₁ _ (sym word ∙ f ∙ start_is m others))).1
 
-  pub count : length (hex (drop 1 row)) ≡ l * 2
-  count = length-hex (drop 1 row) ∙ omega (arith, length-drop 1 row, g.long)
-
-  pub hex_there : (q : ℕ) → q ≡ at + 4 + length (decimal (get_or row 0 0)) → HexStands text (q + 1) (l * 2)
-  hex_there q is =
-      let e = values_there q is in (
-        omega (arith, ap length e, length-append (hex (drop 1 row)) (10 ∷ rest), count),
-        subst (All IsHexDigit) (sym (ap (take (l * 2)) e ∙ take_at (hex (drop 1 row)) (10 ∷ rest) (l * 2) count)) (hex-digits (drop 1 row) (all_drop (◌< 256) 1 row g.bytes)),
-      )
-
-  pub end_there : (q : ℕ) → q ≡ at + 4 + length (decimal (get_or row 0 0)) → drop (q + 1 + l * 2) text ≡ 10 ∷ rest
-  end_there q is = behind text (q + 1) (q + 1 + l * 2) (hex (drop 1 row)) (10 ∷ rest) (values_there q is) (ap (q + 1 +◌) (sym count))
-
--- ---- and what passes is one
+-- ---- its values
 
 hex_of : (c : ℕ) → IsHexDigit c → (hex_digit (unhex_digit c) ≡ c) × (unhex_digit c < 16)
 hex_of c h =
@@ -82,69 +71,53 @@ hex-unhex (suc l) (c ∷ d ∷ cs) e h =
       omega (arith, r.2),
     )
 
--- ---- one test after another
+-- ---- the line
 
-no_row : (text : List ℕ) (at l : ℕ) → ((row rest : List ℕ) → Row l row → drop at text ≡ row_line row ++ rest → ⊥) → RowAt text at l 0
-no_row text at l n = record { right = λ some. absurd (omega arith); wrong = λ e. n }
+-- without its start there is no row, ..
+pub no-start : (text : List ℕ) (l : ℕ) → NoStart text → NoRow text l
+no-start text l none row rest g f =
+    none (get_or row 0 0) (hex (drop 1 row) ++ 10 ∷ rest) g.nonzero (omega (arith, id_small l row g)) (f ∙ line_is row rest)
 
--- without its word there is no row, ..
-pub no_word : (text : List ℕ) (at l : ℕ) → ((rest : List ℕ) → drop at text ≡ row_word ++ rest → ⊥) → RowAt text at l 0
-no_word text at l n = no_row text at l (λ row rest g f. n _ f)
+module _ (text : List ℕ) (l : ℕ) {id : ℕ} {text₁ : List ℕ} (start : StartRead text id text₁) where
+  -- what a row's line says of the identifier and of what stands behind it
+  pub start_told : (row rest : List ℕ) → Row l row → text ≡ row_line row ++ rest → (id ≡ get_or row 0 0) × (text₁ ≡ hex (drop 1 row) ++ 10 ∷ rest)
+  start_told row rest g f =
+      let same = start.only (get_or row 0 0) (hex (drop 1 row) ++ 10 ∷ rest) g.nonzero (omega (arith, id_small l row g)) (f ∙ line_is row rest) in (
+        same,
+        append_cancel_left (row_start id) text₁ _ (sym start.stands ∙ f ∙ line_is row rest ∙ ap (λ x. row_start x ++ (hex (drop 1 row) ++ 10 ∷ rest)) (sym same)),
+      )
 
-module _ (text : List ℕ) (at l : ℕ) {r : ℕ} (field : FieldAt text (at + 3) 1 max_shares r) where
-  id_is : (row rest : List ℕ) → Row l row → drop at text ≡ row_line row ++ rest → r ≡ get_or row 0 0
-  id_is row rest g f =
-      field.only (get_or row 0 0) 9 _ g.nonzero (omega (arith, id_small text at l row rest g f)) (λ d. omega (arith, d.0)) (field_there text at l row rest g f)
+  -- .. nor without room for its values, ..
+  pub no_room : length text₁ < l * 2 → NoRow text l
+  no_room short row rest g f =
+      omega (arith, ap length (start_told row rest g f).1, length-append (hex (drop 1 row)) (10 ∷ rest), count l row g)
 
-  -- .. nor without its identifier, ..
-  pub no_id : r ≡ 0 → RowAt text at l 0
-  no_id e = no_row text at l (λ row rest g f. omega (arith, id_is row rest g f, g.nonzero))
+  pub values_told : (row rest : List ℕ) → Row l row → text ≡ row_line row ++ rest → (take (l * 2) text₁ ≡ hex (drop 1 row)) × (drop (l * 2) text₁ ≡ 10 ∷ rest)
+  values_told row rest g f =
+      let e = (start_told row rest g f).1 in
+      let n = count l row g in
+      (ap (take (l * 2)) e ∙ take_at (hex (drop 1 row)) (10 ∷ rest) (l * 2) n, ap (drop (l * 2)) e ∙ drop_at (hex (drop 1 row)) (10 ∷ rest) (l * 2) n)
 
-  module _ {q : ℕ} (is : q ≡ at + 4 + length (decimal r)) where
-    behind_id : (row rest : List ℕ) → Row l row → drop at text ≡ row_line row ++ rest → q ≡ at + 4 + length (decimal (get_or row 0 0))
-    behind_id row rest g f = is ∙ ap (λ x. at + 4 + length (decimal x)) (id_is row rest g f)
+  pub hex_told : (row rest : List ℕ) → Row l row → text ≡ row_line row ++ rest → All IsHexDigit (take (l * 2) text₁)
+  hex_told row rest g f = subst (All IsHexDigit) (sym (values_told row rest g f).0) (hex-digits (drop 1 row) (all_drop (◌< 256) 1 row g.bytes))
 
-    -- .. the tab behind it, ..
-    pub no-tab : ((rest : List ℕ) → drop q text ≡ 9 ∷ rest → ⊥) → RowAt text at l 0
-    no-tab n = no_row text at l (λ row rest g f. n _ (tab_there text at l row rest g f q (behind_id row rest g f)))
+  -- .. its values, ..
+  pub no-values : (All IsHexDigit (take (l * 2) text₁) → ⊥) → NoRow text l
+  no-values none row rest g f = none (hex_told row rest g f)
 
-    -- .. its values, ..
-    pub no-values : (HexStands text (q + 1) (l * 2) → ⊥) → RowAt text at l 0
-    no-values n = no_row text at l (λ row rest g f. n (hex_there text at l row rest g f q (behind_id row rest g f)))
+  -- .. and its line feed
+  pub no_end : ((rest : List ℕ) → drop (l * 2) text₁ ≡ 10 ∷ rest → ⊥) → NoRow text l
+  no_end none row rest g f = none rest (values_told row rest g f).1
 
-    -- .. and its line feed
-    pub no_end : ((rest : List ℕ) → drop (q + 1 + l * 2) text ≡ 10 ∷ rest → ⊥) → RowAt text at l 0
-    no_end n = no_row text at l (λ row rest g f. n _ (end_there text at l row rest g f q (behind_id row rest g f)))
-
-    -- with all of them there is one
-    module _ (some : 0 < r) (stands : HexStands text (q + 1) (l * 2)) where
-      digits : List ℕ
-      digits = take (l * 2) (drop (q + 1) text)
-
-      read : (hex (unhex digits) ≡ digits) × Below 256 (unhex digits) × (length (unhex digits) ≡ l)
-      unfolding digits
-      read = hex-unhex l (take (l * 2) (drop (q + 1) text)) (length-take-le (l * 2) (drop (q + 1) text) stands.0) stands.1
-
-      row_is : row_at text at l r ≡ r ∷ unhex digits
-      unfolding digits
-      row_is = let e : at + 5 + length (decimal r) ≡ q + 1 = omega arith in ap (λ k. r ∷ unhex (take (l * 2) (drop k text))) e
-
-      values_are : drop (q + 1) text ≡ hex (unhex digits) ++ drop (q + 1 + l * 2) text
-      unfolding digits
-      values_are = sym (take-append-drop (l * 2) (drop (q + 1) text)) ∙ ap₂ ◌++◌ (sym read.0) (drop-drop (l * 2) (q + 1) text)
-
-      pub row_passes : drop at text ≡ row_word ++ drop (at + 3) text → drop q text ≡ 9 ∷ drop (q + 1) text
-          → drop (q + 1 + l * 2) text ≡ 10 ∷ drop (q + 1 + l * 2 + 1) text → RowAt text at l r
-      row_passes word parted ended =
-          let number = field.right some in
-          let next : q + 1 + l * 2 + 1 ≡ at + 6 + length (decimal r) + l * 2 = omega arith in
-          let there : at + 3 + 1 + length (decimal r) ≡ q = omega arith in
-          let later = drop (at + 6 + length (decimal r) + l * 2) text in
-          let line : drop q text ≡ 9 ∷ (hex (unhex digits) ++ 10 ∷ later) = parted ∙ ap (9 ∷◌) (values_are ∙ ap (hex (unhex digits) ++◌) (ended ∙ ap (λ k. 10 ∷ drop k text) next)) in
-          let stood : drop at text ≡ row_line (r ∷ unhex digits) ++ later =
-          word ∙ ap (row_word ++◌) (number.2 ∙ ap (λ x. 9 ∷ (decimal r ++ x)) (ap (λ k. drop k text) there ∙ line) ∙ ap (9 ∷◌) (sym (pieces (decimal r) (hex (unhex digits)) later))) in
-          record {
-            right = λ more. subst (λ row. Row l row × (drop at text ≡ row_line row ++ later)) (sym row_is)
-                (record { long = omega (arith, read.2); bytes = (omega (arith, number.1), read.1); nonzero = some }, stood);
-            wrong = λ e. absurd (omega arith);
-          }
+  -- with all of them there is one
+  pub row_passes : (rest : List ℕ) → l * 2 ≤ length text₁ → All IsHexDigit (take (l * 2) text₁) → drop (l * 2) text₁ ≡ 10 ∷ rest → RowRead text l id rest
+  row_passes rest room digits ended =
+      let values = unhex (take (l * 2) text₁) in
+      let read = hex-unhex l (take (l * 2) text₁) (length-take-le (l * 2) text₁ room) digits in
+      let all : text₁ ≡ hex values ++ 10 ∷ rest = sym (take-append-drop (l * 2) text₁) ∙ ap₂ ◌++◌ (sym read.0) ended in
+      record {
+        row = id ∷ values;
+        is_row = record { long = omega (arith, read.2); bytes = (omega (arith, start.high), read.1); nonzero = start.low };
+        identifier = refl;
+        stands = start.stands ∙ ap (row_start id ++◌) all ∙ sym (line_is (id ∷ values) rest);
+      }

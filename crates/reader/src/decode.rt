@@ -1,11 +1,12 @@
 // What was found right is decoded. A row's values are secret: their digits are read without a branch or an index.
-ghost use Rattle.std.specs.Prelude.{◌≡◌, ◌++◌, ◌+◌, ◌*◌, ◌<◌, ◌≤◌, ◌^◌, length, take, drop};
+ghost use Rattle.std.specs.Prelude.{◌≡◌, ◌++◌, ◌+◌, ◌*◌, ◌<◌, ◌≤◌, ◌^◌, length, drop};
+ghost use Rattle.shamir.specs.Lists.{All};
 ghost use Rattle.rows.specs.Lengths.{four_bytes};
 ghost use Rattle.sheets.specs.ReadAs.{IsHexDigit, unhex_digit, unhex};
-ghost use Rattle.sheets.specs.Writing.{Puts};
-ghost use Rattle.reader.specs.Taking.{HexStands, SomeRow, TakesRow, SomeRows, TakesRows};
+ghost use Rattle.reader.specs.Taking.{SomeRow, TakesRow, SomeRows, TakesRows};
 
-use crate::taking::read_number;
+use crate::lines::read_start;
+use sheets::Head;
 
 // The value of a digit of hex: the letters follow on the digits 9 further.
 fn hex_value(c: u8) -> u8
@@ -15,65 +16,56 @@ fn hex_value(c: u8) -> u8
     c % 16 + c / 64 * 9
 }
 
-// The bytes whose digits stand at a place, as many as the output takes.
-fn take_hex(text: &[u8], at: usize, out: &mut [u8])
-    requires { HexStands text.now at (length out.old * 2) }
-    ensures { out.new ≡ unhex (take (length out.old * 2) (drop at text.now)) }
+// The bytes of digits, two a byte.
+fn take_hex(digits: &[u8], out: &mut [u8])
+    requires { (length digits.now ≡ length out.old * 2) × All IsHexDigit digits.now }
+    ensures { out.new ≡ unhex digits.now }
 {
-    let mut k = 0;
-    let mut i = at;
-    while k < out.len() {
-        out[k] = hex_value(text[i]) * 16 + hex_value(text[i + 1]);
-        k += 1;
-        i += 2;
+    for (k, byte) in out.iter_mut().enumerate() {
+        *byte = hex_value(digits[k * 2]) * 16 + hex_value(digits[k * 2 + 1]);
     }
 }
 
-// The row whose line stands at a place. Gives the place behind the line.
-fn take_row(text: &[u8], at: usize, l: usize, out: &mut [u8]) -> usize
-    requires { SomeRow text.now at l × (length out.old ≡ l + 1) }
-    ensures { TakesRow text.now at l result out.new }
+// The row whose line begins a text, one value more than the output has room for behind its identifier. Gives the text behind the line.
+fn take_row<'a>(text: &'a [u8], l: usize, out: &mut [u8]) -> &'a [u8]
+    requires { SomeRow text.now l × (length out.old ≡ l + 1) }
+    ensures { TakesRow text.now l out.new result.now }
 {
-    let id = read_number(text, at + 4);
-    let digits = at + 5 + sheets::decimal_length(id);
+    let (id, text) = read_start(text).unwrap();
+    let (digits, rest) = text.split_at(l * 2);
     out[0] = id as u8;
-    take_hex(text, digits, &mut out[1..]);
-    digits + l * 2 + 1
+    take_hex(digits, &mut out[1..]);
+    &rest[1..]
 }
 
-// The rows of m lines with l values each, at the front of the output.
-pub fn take_rows(text: &[u8], at: usize, m: usize, l: usize, out: &mut [u8])
-    requires { SomeRows text.now at m l × (m * (l + 1) ≤ length out.old) }
-    ensures { TakesRows text.now at m l out.old out.new }
+// The rows of a text that is their lines, at the front of the output.
+pub fn take_rows(text: &[u8], head: &Head, out: &mut [u8])
+    requires { SomeRows text.now head.now.rows head.now.values × (head.now.rows * (head.now.values + 1) ≤ length out.old) }
+    ensures { TakesRows text.now head.now.rows head.now.values out.old out.new }
 {
-    let mut i = 0;
-    let mut p = 0;
-    let mut next = at;
-    while i < m {
-        let q = p + l + 1;
-        next = take_row(text, next, l, &mut out[p..q]);
-        p = q;
-        i += 1;
+    let w = head.values + 1;
+    let mut rest = text;
+    for i in 0..head.rows {
+        let p = i * w;
+        let q = p + w;
+        rest = take_row(rest, head.values, &mut out[p..q]);
     }
 }
 
 // A number in four bytes, least first.
-fn put_four(out: &mut [u8], at: usize, n: usize)
-    requires { (n < 2 ^ 32) × (at + 4 ≤ length out.old) }
-    ensures { Puts (four_bytes n) at out.old (at + 4) out.new }
+fn put_four(out: &mut [u8], n: usize)
+    requires { (n < 2 ^ 32) × (length out.old ≡ 4) }
+    ensures { out.new ≡ four_bytes n }
 {
-    out[at] = (n % 256) as u8;
-    out[at + 1] = (n / 256 % 256) as u8;
-    out[at + 2] = (n / 65536 % 256) as u8;
-    out[at + 3] = (n / 16777216) as u8;
+    out.copy_from_slice(&(n as u32).to_le_bytes());
 }
 
 // The numbers of a first line, at the front.
-pub fn put_numbers(out: &mut [u8], threshold: usize, m: usize, l: usize)
-    requires { (threshold < 2 ^ 32) × (m < 2 ^ 32) × (l < 2 ^ 32) × (12 ≤ length out.old) }
-    ensures { Puts (four_bytes threshold ++ four_bytes m ++ four_bytes l) 0 out.old 12 out.new }
+pub fn put_numbers(out: &mut [u8], head: &Head)
+    requires { 12 ≤ length out.old }
+    ensures { out.new ≡ four_bytes head.now.threshold ++ four_bytes head.now.rows ++ four_bytes head.now.values ++ drop 12 out.old }
 {
-    put_four(out, 0, threshold);
-    put_four(out, 4, m);
-    put_four(out, 8, l);
+    put_four(&mut out[0..4], head.threshold);
+    put_four(&mut out[4..8], head.rows);
+    put_four(&mut out[8..12], head.values);
 }

@@ -1,36 +1,31 @@
 // Whether the rows of a sheet stand behind its first line, and nothing else.
-ghost use Rattle.std.specs.Prelude.{◌≤◌, length};
-ghost use Rattle.row_set.specs.Limits.{max_shares, max_secret};
-ghost use Rattle.reader.specs.Taking.{LinesAt};
+ghost use Rattle.std.specs.Prelude.{◌≡◌, ℕ, List, [], MatchResult};
+ghost use Rattle.reading.specs.Unsheet.{not_at, unrows};
+ghost use Rattle.reader.specs.Taking.{SomeRows};
 
 use crate::lines::read_row;
+use sheets::Head;
 
 // Identifiers are bytes.
 const BYTES: usize = 256;
 
-// The first wrong line of a text whose line 1 begins at a place, where m rows with l values each are to stand and nothing behind them;
-// 0 where all is right. An identifier that was met is marked.
-pub fn wrong_line(text: &[u8], at: usize, m: usize, l: usize) -> usize
-    requires { (at ≤ length text.now) × (m ≤ max_shares) × (l ≤ max_secret) }
-    ensures { LinesAt text.now at m l result }
+// Whether a text, whose line 1 is its first, is the lines of as many rows as the first line says, and otherwise its first wrong line. An
+// identifier that was met is marked.
+pub fn judge_lines(text: &[u8], head: &Head) -> Result<(), usize>
+    ensures { MatchResult result (λ u. SomeRows text.now head.now.rows head.now.values) (λ k. (t : ℕ) → unrows t head.now.values head.now.rows 1 [] text.now ≡ not_at k) }
 {
     let mut seen = [0u8; BYTES];
-    let mut line = 1;
-    let mut next = at;
-    while line <= m {
-        let id = read_row(text, next, l);
-        if id == 0 {
-            return line;
-        }
+    let mut rest = text;
+    for line in 1..=head.rows {
+        let (id, behind) = read_row(rest, head.values).ok_or(line)?;
         if seen[id] != 0 {
-            return line;
+            return Err(line);
         }
         seen[id] = 1;
-        next += sheets::row_length(id as u8, l);
-        line += 1;
+        rest = behind;
     }
-    if next < text.len() {
-        return line;
+    if !rest.is_empty() {
+        return Err(head.rows + 1);
     }
-    0
+    Ok(())
 }

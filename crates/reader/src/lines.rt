@@ -1,98 +1,61 @@
-// The lines of a sheet, as they stand in a text. Every number on a sheet is at least 1, so that 0 can say that there is none.
-ghost use Rattle.std.specs.Prelude.{◌<◌, ◌≤◌, length};
+// The lines of a sheet, at the front of a text.
+ghost use Rattle.std.specs.Prelude.{◌≡◌, ◌<◌, ◌≤◌, MatchOption};
 ghost use Rattle.row_set.specs.Limits.{max_secret};
-ghost use Rattle.reader.specs.Taking.{FieldAt, HeadRead, RowAt};
+ghost use Rattle.reading.specs.Unsheet.{not_at, unsheet};
+ghost use Rattle.reader.specs.Taking.{FieldRead, NoField, HeadRead, StartRead, NoStart, RowRead, NoRow};
 
-use crate::taking::{hex_at, is_at, read_number, word_at};
+use crate::taking::{all_hex, read_number};
+use sheets::Head;
 
-// The number of a field, a tab and digits, that stands at a place and is in range; 0 where there is none.
-fn read_field(text: &[u8], at: usize, least: usize, most: usize) -> usize
-    requires { (at ≤ length text.now) × (0 < least) × (most < 100000) }
-    ensures { FieldAt text.now at least most result }
+// The number of a field, a tab and digits, where it is in range.
+fn read_field(text: &[u8], least: usize, most: usize) -> Option<(usize, &[u8])>
+    requires { most < 100000 }
+    ensures { MatchOption result (NoField text.now least most) (λ r. FieldRead text.now least most r.0 r.1.now) }
 {
-    if !is_at(text, at, sheets::TAB) {
-        return 0;
+    let (n, rest) = read_number(text.strip_prefix(&[sheets::TAB])?)?;
+    if n < least || most < n {
+        return None;
     }
-    let n = read_number(text, at + 1);
-    if n < least {
-        return 0;
-    }
-    if most < n {
-        return 0;
-    }
-    n
+    Some((n, rest))
 }
 
-// What a first line says.
-#[derive(Clone, Copy)]
-pub struct Head {
-    pub threshold: usize,
-    pub rows: usize,
-    pub values: usize,
+// The numbers of the text's first line, where it begins with a first line of a sheet.
+pub fn read_head(text: &[u8]) -> Option<(Head, &[u8])>
+    ensures { MatchOption result (unsheet text.now ≡ not_at 0) (λ r. HeadRead text.now r.0.threshold r.0.rows r.0.values r.1.now) }
+{
+    let text = text.strip_prefix(b"seal")?;
+    let (threshold, text) = read_field(text, 2, row_set::MAX_SHARES)?;
+    let (rows, text) = read_field(text, 1, row_set::MAX_SHARES)?;
+    let (values, text) = read_field(text, 1, row_set::MAX_SECRET)?;
+    let text = text.strip_prefix(&[sheets::LINE_FEED])?;
+    let head = Head {
+        threshold,
+        rows,
+        values,
+    };
+    Some((head, text))
 }
 
-const NO_HEAD: Head = Head {
-    threshold: 0,
-    rows: 0,
-    values: 0,
-};
-
-// The numbers of the text's first line; a threshold of 0 where it begins with no first line of a sheet.
-pub fn read_head(text: &[u8]) -> Head
-    ensures { HeadRead text.now result.threshold result.rows result.values }
+// The identifier of a row, where the text begins with a row's line up to its values.
+pub fn read_start(text: &[u8]) -> Option<(usize, &[u8])>
+    ensures { MatchOption result (NoStart text.now) (λ r. StartRead text.now r.0 r.1.now) }
 {
-    if !word_at(text, 0, b"seal") {
-        return NO_HEAD;
-    }
-    let t = read_field(text, 4, 2, row_set::MAX_SHARES);
-    if t == 0 {
-        return NO_HEAD;
-    }
-    let second = 5 + sheets::decimal_length(t);
-    let m = read_field(text, second, 1, row_set::MAX_SHARES);
-    if m == 0 {
-        return NO_HEAD;
-    }
-    let third = second + 1 + sheets::decimal_length(m);
-    let l = read_field(text, third, 1, row_set::MAX_SECRET);
-    if l == 0 {
-        return NO_HEAD;
-    }
-    if !is_at(
-        text,
-        third + 1 + sheets::decimal_length(l),
-        sheets::LINE_FEED,
-    ) {
-        return NO_HEAD;
-    }
-    Head {
-        threshold: t,
-        rows: m,
-        values: l,
-    }
+    let text = text.strip_prefix(b"row")?;
+    let (id, text) = read_field(text, 1, row_set::MAX_SHARES)?;
+    let text = text.strip_prefix(&[sheets::TAB])?;
+    Some((id, text))
 }
 
-// The identifier of the row whose line stands at a place; 0 where there is none.
-pub fn read_row(text: &[u8], at: usize, l: usize) -> usize
-    requires { (at ≤ length text.now) × (l ≤ max_secret) }
-    ensures { RowAt text.now at l result }
+// The identifier of a row with l values, where the text begins with its line.
+pub fn read_row(text: &[u8], l: usize) -> Option<(usize, &[u8])>
+    requires { l ≤ max_secret }
+    ensures { MatchOption result (NoRow text.now l) (λ r. RowRead text.now l r.0 r.1.now) }
 {
-    if !word_at(text, at, b"row") {
-        return 0;
+    let (id, text) = read_start(text)?;
+    let (digits, text) = text.split_at_checked(l * 2)?;
+    if !all_hex(digits) {
+        return None;
     }
-    let id = read_field(text, at + 3, 1, row_set::MAX_SHARES);
-    if id == 0 {
-        return 0;
-    }
-    let parted = at + 4 + sheets::decimal_length(id);
-    if !is_at(text, parted, sheets::TAB) {
-        return 0;
-    }
-    if !hex_at(text, parted + 1, l * 2) {
-        return 0;
-    }
-    if !is_at(text, parted + 1 + l * 2, sheets::LINE_FEED) {
-        return 0;
-    }
-    id
+    let text = text.strip_prefix(&[sheets::LINE_FEED])?;
+    Some((id, text))
 }

@@ -3,7 +3,7 @@ ghost use Rattle.answer.specs.Answers.{answer_of};
 ghost use Rattle.reading.specs.Answer.{ReadsSheet};
 
 use crate::decode::{put_numbers, take_rows};
-use crate::judge::wrong_line;
+use crate::judge::judge_lines;
 use crate::lines::read_head;
 use answer::Reason;
 
@@ -14,26 +14,16 @@ const HEAD_BYTES: usize = 12;
 pub fn read_sheet(text: &[u8], head: &mut [u8], out: &mut [u8]) -> Result<usize, Reason>
     ensures { ReadsSheet text.now head.old out.old (answer_of result) head.new out.new }
 {
-    let first = read_head(text);
-    let t = first.threshold;
-    let m = first.rows;
-    let l = first.values;
-    if t == 0 {
-        return Err(Reason::InvalidSheet(0));
-    }
-    let start = sheets::head_length(t, m, l);
-    let line = wrong_line(text, start, m, l);
-    if line != 0 {
-        return Err(Reason::InvalidSheet(line));
-    }
+    let (numbers, lines) = read_head(text).ok_or(Reason::InvalidSheet(0))?;
+    judge_lines(lines, &numbers).map_err(Reason::InvalidSheet)?;
     if head.len() < HEAD_BYTES {
         return Err(Reason::NoRoom);
     }
-    let count = m * (l + 1);
+    let count = numbers.rows * (numbers.values + 1);
     if out.len() < count {
         return Err(Reason::NoRoom);
     }
-    put_numbers(head, t, m, l);
-    take_rows(text, start, m, l, out);
+    put_numbers(head, &numbers);
+    take_rows(lines, &numbers, out);
     Ok(count)
 }

@@ -1,102 +1,60 @@
-// What stands at a place of a text: a byte, a number, digits of hex.
-ghost use Rattle.std.specs.Prelude.{◌≡◌, true, false, cond, ◌<◌, ◌≤◌, eqb, length};
-ghost use Rattle.sheets.specs.Text.{decimal};
-ghost use Rattle.sheets.specs.ReadAs.{IsHexDigit};
-ghost use Rattle.reader.specs.Taking.{NumberAt, HexAt, ByteAt, WordAt};
+// What a text begins with: a number, digits of hex. What gives something gives it with the rest of the text behind it, and None where
+// there is none.
+ghost use Rattle.std.specs.Prelude.{◌≡◌, ◌↔◌, ◌<◌, ◌≤◌, ◌^◌, ℕ, EachIndex, IsTrue, MatchOption, length, slice_index};
+ghost use Rattle.shamir.specs.Lists.{All};
+ghost use Rattle.sheets.specs.ReadAs.{IsDigit, IsHexDigit, value};
+ghost use Rattle.reader.specs.Taking.{NumberRead, NoNumber, is_hex_digit};
 
 // The numbers of a sheet have at most so many digits.
 const MOST_DIGITS: usize = 5;
 
-// The value of k digits, or 0 where they are not the decimal of their value: they begin with 0, or are none.
-fn without_leading_zeros(v: usize, k: usize) -> usize
-    requires { v < 100000 }
-    ensures { result ≡ cond (eqb (length (decimal v)) k) v 0 }
+// How many digits a text begins with.
+fn digit_count(text: &[u8]) -> usize
+    ensures inside { result ≤ length text.now }
+    ensures digits { (k : ℕ) → k < result → IsDigit (slice_index text.now k) }
+    ensures ended { result < length text.now → IsDigit (slice_index text.now result) → ⊥ }
 {
-    if sheets::decimal_length(v) == k {
-        return v;
-    }
-    0
+    text.iter()
+        .position(|c| !c.is_ascii_digit())
+        .unwrap_or(text.len())
 }
 
-// The number that stands at a place; 0 where there is none.
-pub fn read_number(text: &[u8], at: usize) -> usize
-    requires { at ≤ length text.now }
-    ensures { NumberAt text.now at result }
+// The value of digits.
+fn value_of(digits: &[u8]) -> usize
+    requires { (length digits.now ≤ 5) × EachIndex digits.now (λ k. IsDigit (slice_index digits.now k)) }
+    ensures { (result ≡ value digits.now) × (result < 10 ^ length digits.now) }
 {
     let mut v = 0;
-    let mut k = 0;
-    let mut i = at;
-    while k < MOST_DIGITS {
-        if text.len() <= i {
-            return without_leading_zeros(v, k);
-        }
-        let c = text[i];
-        if c < b'0' {
-            return without_leading_zeros(v, k);
-        }
-        if b'9' < c {
-            return without_leading_zeros(v, k);
-        }
-        v = v * 10 + ((c - b'0') as usize);
-        k += 1;
-        i += 1;
+    for c in digits {
+        v = v * 10 + (*c - b'0') as usize;
     }
-    without_leading_zeros(v, k)
+    v
 }
 
-// Whether it is a digit of lower-case hex. A row's values are secret: nothing here or in `hex_at` branches on a digit, and what is told
+// The number that a text begins with. Digits with zeros in front are none.
+pub fn read_number(text: &[u8]) -> Option<(usize, &[u8])>
+    ensures { MatchOption result (NoNumber text.now) (λ r. NumberRead text.now r.0 r.1.now) }
+{
+    let front = &text[..text.len().min(MOST_DIGITS)];
+    let (digits, rest) = text.split_at(digit_count(front));
+    let n = value_of(digits);
+    if sheets::decimal_length(n) != digits.len() {
+        return None;
+    }
+    Some((n, rest))
+}
+
+// Whether it is a digit of lower-case hex. A row's values are secret: nothing here or in `all_hex` branches on a digit, and what is told
 // of them is told of all together.
 fn is_hex_digit(c: u8) -> bool
-    ensures { (result ≡ true → IsHexDigit c) × (result ≡ false → IsHexDigit c → ⊥) }
+    ensures { result ≡ is_hex_digit c }
 {
     (b'0' <= c) & (c <= b'9') | (b'a' <= c) & (c <= b'f')
 }
 
-// Whether so many digits of lower-case hex stand at a place.
-pub fn hex_at(text: &[u8], at: usize, count: usize) -> bool
-    requires { at ≤ length text.now }
-    ensures { HexAt text.now at count result }
+// Whether all are.
+pub fn all_hex(digits: &[u8]) -> bool
+    ensures { IsTrue result ↔ All IsHexDigit digits.now }
 {
-    if text.len() - at < count {
-        return false;
-    }
-    let mut all = true;
-    let mut k = 0;
-    let mut i = at;
-    while k < count {
-        all = all & is_hex_digit(text[i]);
-        k += 1;
-        i += 1;
-    }
-    all
-}
-
-// Whether this byte stands at a place.
-pub fn is_at(text: &[u8], at: usize, b: u8) -> bool
-    ensures { ByteAt text.now at b result }
-{
-    if text.len() <= at {
-        return false;
-    }
-    text[at] == b
-}
-
-// Whether this word stands at a place.
-pub fn word_at(text: &[u8], at: usize, word: &[u8]) -> bool
-    requires { at ≤ length text.now }
-    ensures { WordAt text.now at word.now result }
-{
-    if text.len() - at < word.len() {
-        return false;
-    }
-    let mut k = 0;
-    let mut i = at;
-    while k < word.len() {
-        if text[i] != word[k] {
-            return false;
-        }
-        k += 1;
-        i += 1;
-    }
-    true
+    digits.iter().fold(true, |all, c| all & is_hex_digit(*c))
 }

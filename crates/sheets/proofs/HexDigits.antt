@@ -1,25 +1,14 @@
 -- The digits of bytes in hex, as the code makes and counts them.
 -- Assumes nothing.
 use mathlib.Core.Path.{◌≡◌, refl, sym, ap, ap₂, ◌∙◌, subst}
-use mathlib.Core.Bool.{Bool, true, false, cond}
 use mathlib.Core.List.{List, [], ◌∷◌, ◌++◌, append_assoc}
-use Prim.Native.Nat.{ℕ, ◌+◌, ◌*◌, ◌/◌, ◌%◌, ◌<◌, ◌≤◌}
+use Prim.Native.Nat.{ℕ, ◌+◌, ◌/◌, ◌%◌, ◌<◌, ◌≤◌}
 use native.Mathlib.Numerals.{add-one}
-use native.Mathlib.Omega.{arith}
-use lib.Dec.{ltb}
 use lib.ListN.{length, take, get_or, set}
 use lib.Seq.{take-suc}
-use borrow.Author.Tests.{ltb-true, ltb-false}
-use Rattle.sheets.specs.Text.{digit, hex_digit, hex}
+use Rattle.sheets.specs.Text.{hex_digit, hex}
 use Rattle.sheets.specs.Writing.{Puts}
 use Rattle.sheets.proofs.Writing.{puts_two}
-
-pub hex_digit_is : (d : ℕ) → d < 16 → 48 + d + (d + 6) / 16 * 39 ≡ hex_digit d
-hex_digit_is d h = by_test (ltb d 10) (ltb-true d 10) (ltb-false d 10)
-  where
-    by_test : (b : Bool) → (b ≡ true → d < 10) → (b ≡ false → 10 ≤ d) → 48 + d + (d + 6) / 16 * 39 ≡ cond b (digit d) (87 + d)
-    by_test true few many = omega (arith, few refl)
-    by_test false few many = omega (arith, many refl)
 
 hex-append : (xs ys : List ℕ) → hex (xs ++ ys) ≡ hex xs ++ hex ys
 hex-append [] ys = refl

@@ -68,12 +68,13 @@ module _ (t m l : ℕ) (s out : List ℕ) where
       pub no_room : length out < n → WritesAccepted t m l s out (refused 12 0 0) out
       no_room h = record { answers = sym (simp (le-ltb t 2 low, le-ltb max_shares t high, lt-ltb (length out) (length text) (omega arith))); leaves = refl }
 
-      -- the first line and then the others
-      pub written : {r e : ℕ} {mid left : List ℕ} → n ≤ length out → Puts (head_line t m l) 0 out r mid → Puts (lines_to m (l + 1) s) r mid e left
-          → WritesAccepted t m l s out (done n) left
-      written {r} {e} {mid} {left} h p q =
-          let put = subst (λ x. Puts x 0 out e left) (sym (sheet_is t l m (l + 1) s)) (puts_then (omega arith) p q) in
+      -- the first line and then the others, which the output then has
+      pub written : {q r e : ℕ} {first mid left new : List ℕ} → n ≤ length out → first ≡ out → q ≡ 0 → Puts (head_line t m l) q first r mid → Puts (lines_to m (l + 1) s) r mid e left
+          → new ≡ left → WritesAccepted t m l s out (done n) new
+      written {q} {r} {e} {first} {mid} {left} {new} h same front p q' is =
+          let head = subst (λ k. Puts (head_line t m l) k out r mid) front (subst (λ o. Puts (head_line t m l) q o r mid) same p) in
+          let put = subst (λ x. Puts x 0 out e left) (sym (sheet_is t l m (l + 1) s)) (puts_then (omega arith) head q') in
           record {
             answers = ap done counted ∙ sym (simp (le-ltb t 2 low, le-ltb max_shares t high, le-ltb (length out) (length text) (omega arith)));
-            leaves = put.leaves ∙ ap (λ k. text ++ drop k out) (zero-add (length text) ∙ sym counted);
+            leaves = is ∙ put.leaves ∙ ap (λ k. text ++ drop k out) (zero-add (length text) ∙ sym counted);
           }

@@ -5,7 +5,7 @@ use mathlib.Core.List.{List, [], ◌∷◌, ◌++◌, append_assoc, append-nil}
 use Prim.Native.Nat.{ℕ, ◌+◌, ◌<◌, ◌≤◌}
 use native.Mathlib.Numerals.{add-one}
 use native.Mathlib.Omega.{arith}
-use lib.ListN.{length, take, drop, set, length-append, length-set, take-append-drop}
+use lib.ListN.{length, take, drop, set, length-append, length-drop, length-set, take-append-drop}
 use lib.Seq.{length-take-le, take_at, drop_at, drop-drop, set_split, append_snoc}
 use Rattle.sheets.specs.Writing.{Puts}
 
@@ -58,3 +58,15 @@ puts_two {a} {at} {out} {n} {mid} inside p b c h =
     let two : n + 1 + 1 ≡ n + 2 = omega arith in
     subst (λ e. Puts ((a ++ (b ∷ [])) ++ (c ∷ [])) at out e (set (set mid n b) (n + 1) c)) two
     (puts_more inside (puts_more inside p b (omega arith)) c (omega (arith, length-set mid n b)))
+
+-- an output keeps its length
+pub puts-length : {t : List ℕ} {at : ℕ} {out : List ℕ} {e : ℕ} {left : List ℕ} → at + length t ≤ length out → Puts t at out e left → length left ≡ length out
+puts-length {t} {at} {out} {e} {left} room p =
+    omega (
+      arith,
+      ap length p.leaves,
+      length-append (take at out ++ t) (drop (at + length t) out),
+      length-append (take at out) t,
+      length-take-le at out (omega arith),
+      length-drop (at + length t) out,
+    )

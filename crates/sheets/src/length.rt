@@ -5,24 +5,20 @@ ghost use Rattle.row_set.specs.Limits.{max_secret, max_shares, max_rows};
 ghost use Rattle.sheets.specs.Text.{decimal};
 ghost use Rattle.sheets.specs.Sheet.{head_line, sheet};
 
+use crate::head::Head;
+
 // The count of a number's digits. The numbers of a sheet have at most five.
 pub fn decimal_length(n: usize) -> usize
     requires { n < 100000 }
     ensures { (result ≡ length (decimal n)) × (result ≤ 5) }
 {
-    if n < 10 {
-        return 1;
+    match n {
+        0..=9 => 1,
+        10..=99 => 2,
+        100..=999 => 3,
+        1000..=9999 => 4,
+        _ => 5,
     }
-    if n < 100 {
-        return 2;
-    }
-    if n < 1000 {
-        return 3;
-    }
-    if n < 10000 {
-        return 4;
-    }
-    5
 }
 
 // Of the first line: its word, three tabs, a line feed, and three numbers.
@@ -41,18 +37,15 @@ pub fn row_length(id: u8, l: usize) -> usize
     decimal_length(id as usize) + 2 * l + 6
 }
 
-// Of m rows with l values each.
-pub fn sheet_length(threshold: usize, rows: &[u8], m: usize, l: usize) -> usize
-    requires { (threshold ≤ max_shares) × (m ≤ max_rows) × (l ≤ max_secret) × (m * (l + 1) ≤ length rows.now) }
-    ensures { result ≡ length (sheet threshold l (cut (replicate m (l + 1)) rows.now)) }
+// Of a sheet with this first line and these rows.
+pub fn sheet_length(head: &Head, rows: &[u8]) -> usize
+    requires { head.now.rows * (head.now.values + 1) ≤ length rows.now }
+    ensures { result ≡ length (sheet head.now.threshold head.now.values (cut (replicate head.now.rows (head.now.values + 1)) rows.now)) }
 {
-    let mut n = head_length(threshold, m, l);
-    let mut i = 0;
-    let mut at = 0;
-    while i < m {
-        n += row_length(rows[at], l);
-        at += l + 1;
-        i += 1;
+    let w = head.values + 1;
+    let mut n = head_length(head.threshold, head.rows, head.values);
+    for i in 0..head.rows {
+        n += row_length(rows[i * w], head.values);
     }
     n
 }

@@ -1,10 +1,12 @@
-// Pieces of text are put at a place of the output; each gives the place behind it. A row's values are secret: their digits are made
-// without a branch or an index.
-ghost use Rattle.std.specs.Prelude.{◌≡◌, ◌∷◌, ◌+◌, ◌*◌, ◌<◌, ◌≤◌, length, replicate};
+// A text is put into an output piece by piece, each behind the one before. A row's values are secret: their digits are made without a
+// branch or an index.
+ghost use Rattle.std.specs.Prelude.{◌≡◌, [], ◌∷◌, ◌+◌, ◌*◌, ◌<◌, ◌≤◌, length, replicate};
 ghost use Rattle.rows.specs.Storage.{cut};
 ghost use Rattle.sheets.specs.Text.{tab, digit as digitOf, decimal, hex_digit, hex};
 ghost use Rattle.sheets.specs.Sheet.{head_line, row_line, row_lines};
 ghost use Rattle.sheets.specs.Writing.{Puts};
+
+use crate::head::Head;
 
 pub const TAB: u8 = 9;
 
@@ -18,29 +20,6 @@ fn digit(d: usize) -> u8
     48 + (d as u8)
 }
 
-// A number in decimal: its tenth first, where that is not 0, then its last digit.
-fn put_decimal(out: &mut [u8], at: usize, n: usize) -> usize
-    requires { at + length (decimal n) ≤ length out.old }
-    ensures { Puts (decimal n) at out.old result out.new }
-{
-    if n < 10 {
-        out[at] = digit(n);
-        return at + 1;
-    }
-    let last = put_decimal(out, at, n / 10);
-    out[last] = digit(n % 10);
-    last + 1
-}
-
-// A tab, and a number: a field of a line.
-fn put_number(out: &mut [u8], at: usize, n: usize) -> usize
-    requires { at + length (decimal n) + 1 ≤ length out.old }
-    ensures { Puts (tab ∷ decimal n) at out.old result out.new }
-{
-    out[at] = TAB;
-    put_decimal(out, at + 1, n)
-}
-
 // The lower-case digit of a number under 16: those from 10 on stand 39 further than the others.
 fn hex_digit(d: u8) -> u8
     requires { d < 16 }
@@ -50,67 +29,119 @@ fn hex_digit(d: u8) -> u8
 }
 
 // Bytes in hex, two digits each.
-fn put_hex(out: &mut [u8], at: usize, values: &[u8]) -> usize
-    requires { at + length values.now * 2 ≤ length out.old }
-    ensures { Puts (hex values.now) at out.old result out.new }
+fn write_hex(out: &mut [u8], values: &[u8])
+    requires { length out.old ≡ length values.now * 2 }
+    ensures { out.new ≡ hex values.now }
 {
-    let mut end = at;
-    let mut k = 0;
-    while k < values.len() {
-        let b = values[k];
-        out[end] = hex_digit(b / 16);
-        out[end + 1] = hex_digit(b % 16);
-        end += 2;
-        k += 1;
+    for (k, b) in values.iter().enumerate() {
+        out[k * 2] = hex_digit(*b / 16);
+        out[k * 2 + 1] = hex_digit(*b % 16);
     }
-    end
 }
 
-// A row's line.
-fn put_row(out: &mut [u8], at: usize, row: &[u8]) -> usize
-    requires { (0 < length row.now) × (at + length (row_line row.now) ≤ length out.old) }
-    ensures { Puts (row_line row.now) at out.old result out.new }
-{
-    out[at] = b'r';
-    out[at + 1] = b'o';
-    out[at + 2] = b'w';
-    let id = row[0] as usize;
-    let parted = put_number(out, at + 3, id);
-    out[parted] = TAB;
-    let close = put_hex(out, parted + 1, &row[1..]);
-    out[close] = LINE_FEED;
-    close + 1
+// An output that is written up to a place.
+#[derive(Drop)]
+pub struct Page<'a> {
+    out: &'a mut [u8],
+    end: usize,
 }
 
-// The lines of m rows of w bytes.
-pub fn put_rows(out: &mut [u8], at: usize, rows: &[u8], w: usize, m: usize) -> usize
-    requires { (0 < w) × (m * w ≤ length rows.now) × (at + length (row_lines (cut (replicate m w) rows.now)) ≤ length out.old) }
-    ensures { Puts (row_lines (cut (replicate m w) rows.now)) at out.old result out.new }
-{
-    let mut end = at;
-    let mut i = 0;
-    let mut p = 0;
-    while i < m {
-        let q = p + w;
-        end = put_row(out, end, &rows[p..q]);
-        p = q;
-        i += 1;
+impl<'a> Page<'a> {
+    pub fn new(out: &'a mut [u8]) -> Page<'a>
+        ensures same { result.out.ghost_name ≡ out.entry.ghost_name }
+        ensures held { result.out.now ≡ out.old }
+        ensures at_front { result.end ≡ 0 }
+    {
+        Page { out, end: 0 }
     }
-    end
-}
 
-// The first line, at the front.
-pub fn put_head(out: &mut [u8], threshold: usize, m: usize, l: usize) -> usize
-    requires { length (head_line threshold m l) ≤ length out.old }
-    ensures { Puts (head_line threshold m l) 0 out.old result out.new }
-{
-    out[0] = b's';
-    out[1] = b'e';
-    out[2] = b'a';
-    out[3] = b'l';
-    let first = put_number(out, 4, threshold);
-    let second = put_number(out, first, m);
-    let end = put_number(out, second, l);
-    out[end] = LINE_FEED;
-    end + 1
+    fn byte(&mut self, b: u8)
+        requires { self.old.end < length self.old.out.now }
+        ensures same { self.new.out.ghost_name ≡ self.old.out.ghost_name }
+        ensures puts { Puts (b ∷ []) self.old.end self.old.out.now self.new.end self.new.out.now }
+    {
+        self.out[self.end] = b;
+        self.end += 1;
+    }
+
+    fn word(&mut self, word: &[u8])
+        requires { self.old.end + length word.now ≤ length self.old.out.now }
+        ensures same { self.new.out.ghost_name ≡ self.old.out.ghost_name }
+        ensures puts { Puts word.now self.old.end self.old.out.now self.new.end self.new.out.now }
+    {
+        let next = self.end + word.len();
+        self.out[self.end..next].copy_from_slice(word);
+        self.end = next;
+    }
+
+    // A number: its tenth first, where that is not 0, then its last digit.
+    fn decimal(&mut self, n: usize)
+        requires { self.old.end + length (decimal n) ≤ length self.old.out.now }
+        ensures same { self.new.out.ghost_name ≡ self.old.out.ghost_name }
+        ensures puts { Puts (decimal n) self.old.end self.old.out.now self.new.end self.new.out.now }
+    {
+        if n < 10 {
+            return self.byte(digit(n));
+        }
+        self.decimal(n / 10);
+        self.byte(digit(n % 10));
+    }
+
+    // A tab, and a number: a field of a line.
+    fn number(&mut self, n: usize)
+        requires { self.old.end + length (decimal n) + 1 ≤ length self.old.out.now }
+        ensures same { self.new.out.ghost_name ≡ self.old.out.ghost_name }
+        ensures puts { Puts (tab ∷ decimal n) self.old.end self.old.out.now self.new.end self.new.out.now }
+    {
+        self.byte(TAB);
+        self.decimal(n);
+    }
+
+    fn hex(&mut self, values: &[u8])
+        requires { self.old.end + length values.now * 2 ≤ length self.old.out.now }
+        ensures same { self.new.out.ghost_name ≡ self.old.out.ghost_name }
+        ensures puts { Puts (hex values.now) self.old.end self.old.out.now self.new.end self.new.out.now }
+    {
+        let next = self.end + values.len() * 2;
+        write_hex(&mut self.out[self.end..next], values);
+        self.end = next;
+    }
+
+    // A row's line.
+    fn row(&mut self, row: &[u8])
+        requires { (0 < length row.now) × (self.old.end + length (row_line row.now) ≤ length self.old.out.now) }
+        ensures same { self.new.out.ghost_name ≡ self.old.out.ghost_name }
+        ensures puts { Puts (row_line row.now) self.old.end self.old.out.now self.new.end self.new.out.now }
+    {
+        self.word(b"row");
+        self.number(row[0] as usize);
+        self.byte(TAB);
+        self.hex(&row[1..]);
+        self.byte(LINE_FEED);
+    }
+
+    // The lines of m rows of w bytes.
+    pub fn rows(&mut self, rows: &[u8], w: usize, m: usize)
+        requires { (0 < w) × (m * w ≤ length rows.now) × (self.old.end + length (row_lines (cut (replicate m w) rows.now)) ≤ length self.old.out.now) }
+        ensures same { self.new.out.ghost_name ≡ self.old.out.ghost_name }
+        ensures puts { Puts (row_lines (cut (replicate m w) rows.now)) self.old.end self.old.out.now self.new.end self.new.out.now }
+    {
+        for i in 0..m {
+            let p = i * w;
+            self.row(&rows[p..p + w]);
+        }
+    }
+
+    // The first line.
+    pub fn head(&mut self, head: &Head)
+        requires { self.old.end + length (head_line head.now.threshold head.now.rows head.now.values) ≤ length self.old.out.now }
+        ensures same { self.new.out.ghost_name ≡ self.old.out.ghost_name }
+        ensures puts { Puts (head_line head.now.threshold head.now.rows head.now.values) self.old.end self.old.out.now self.new.end self.new.out.now }
+    {
+        self.word(b"seal");
+        self.number(head.threshold);
+        self.number(head.rows);
+        self.number(head.values);
+        self.byte(LINE_FEED);
+    }
 }

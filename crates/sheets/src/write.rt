@@ -4,8 +4,9 @@ ghost use Rattle.answer.specs.Answers.{answer_of};
 ghost use Rattle.row_set.specs.Limits.{max_secret, max_rows};
 ghost use Rattle.sheets.specs.Sheet.{WritesAccepted, WritesSheet};
 
+use crate::head::Head;
 use crate::length::sheet_length;
-use crate::put::{put_head, put_rows};
+use crate::put::Page;
 use answer::Reason;
 
 // Of m accepted rows with l values each.
@@ -25,12 +26,18 @@ fn write_accepted(
     if row_set::MAX_SHARES < threshold {
         return Err(Reason::InvalidSizeRequest);
     }
-    let n = sheet_length(threshold, rows, m, l);
+    let head = Head {
+        threshold,
+        rows: m,
+        values: l,
+    };
+    let n = sheet_length(&head, rows);
     if out.len() < n {
         return Err(Reason::NoRoom);
     }
-    let at = put_head(out, threshold, m, l);
-    put_rows(out, at, rows, l + 1, m);
+    let mut page = Page::new(out);
+    page.head(&head);
+    page.rows(rows, l + 1, m);
     Ok(n)
 }
 

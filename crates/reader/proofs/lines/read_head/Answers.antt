@@ -1,53 +1,34 @@
--- `read_head` meets its contract: each test that fails shows that the text begins with no first line.
-use mathlib.Core.Path.{ap}
-use Prim.Native.Nat.{◌+◌}
-use native.Mathlib.Omega.{arith}
-use Rattle.reader.proofs.FieldRead.{field_inside}
-use Rattle.reader.proofs.HeadLineRead.{no_word, no-threshold, no_rows, no-values, no_end, head_passes}
+-- `read_head` meets its contract: each piece that is missing shows that the text begins with no first line.
+use mathlib.Core.Path.{◌≡◌}
+use mathlib.Core.List.{[], ◌∷◌, ◌++◌}
+use Rattle.std.proofs.Common.{rules}
+use Rattle.sheets.specs.Sheet.{seal_word}
+use Rattle.reader.proofs.WordRead.{stripped, other_word}
+use Rattle.reader.proofs.HeadLineRead.{no_word, no-threshold, no_rows, no-values, no_end}
 use Rattle.reader.proofs.lines.read_head.Goals as goal
+use Rattle.reader.proofs.lines.read_head.Goals.{In_ok-text}
 
-pub returns-then-not-word_at : goal.returns-then-not-word_at
-returns-then-not-word_at c = no_word c.args.text.now (c.word_at.ensures.no c.if-not-word_at.true)
+word : (c : In_ok-text) → c.args.text.now ≡ seal_word ++ c.in_ok-text.text.now
+word c = stripped c.args.text.now seal_word c.in_ok-text.text c.in_ok-text.ensures.cases
 
-pub read_field-t-requires : goal.read_field-t-requires
-read_field-t-requires c = (omega (arith, (c.word_at.ensures.yes c.if-not-word_at.false).0), omega arith, omega arith)
+pub returns-in_err-text : goal.returns-in_err-text
+returns-in_err-text c = search (rules, no_word c.args.text.now)
 
-pub returns-then-t-eq0 : goal.returns-then-t-eq0
-returns-then-t-eq0 c = no-threshold c.args.text.now c.read_field-t.ensures c.if-t-eq0.true
+pub returns-in_err-threshold : goal.returns-in_err-threshold
+returns-in_err-threshold c = search (rules, no-threshold c.args.text.now)
 
-pub decimal_length-second-requires : goal.decimal_length-second-requires
-decimal_length-second-requires c = omega (arith, (c.read_field-t.ensures.right (omega (arith, c.if-t-eq0.false))).1)
+pub returns-in_err-rows : goal.returns-in_err-rows
+returns-in_err-rows c =
+    rw c.from_residual-in_err-rows.ensures
+    (no_rows c.args.text.now (word (goal.at.returns-in_err-rows c).In_ok-text) c.in_ok-threshold.ensures c.in_err-rows.ensures)
 
-pub read_field-m-requires : goal.read_field-m-requires
-read_field-m-requires c = (omega (arith, c.decimal_length-second.ensures.0, field_inside c.read_field-t.ensures (omega (arith, c.if-t-eq0.false))), omega arith, omega arith)
+pub returns-in_err-values : goal.returns-in_err-values
+returns-in_err-values c =
+    rw c.from_residual-in_err-values.ensures
+    (no-values c.args.text.now (word (goal.at.returns-in_err-values c).In_ok-text) c.in_ok-threshold.ensures c.in_ok-rows.ensures c.in_err-values.ensures)
 
-pub returns-then-m-eq0 : goal.returns-then-m-eq0
-returns-then-m-eq0 c =
-    no_rows c.args.text.now c.read_field-t.ensures (ap (5 +◌) c.decimal_length-second.ensures.0) c.read_field-m.ensures c.if-m-eq0.true
-
-pub decimal_length-requires : goal.decimal_length-requires
-decimal_length-requires c = omega (arith, (c.read_field-m.ensures.right (omega (arith, c.if-m-eq0.false))).1)
-
-pub read_field-l-requires : goal.read_field-l-requires
-read_field-l-requires c = (omega (arith, c.decimal_length.ensures.0, field_inside c.read_field-m.ensures (omega (arith, c.if-m-eq0.false))), omega arith, omega arith)
-
-pub returns-then-l-eq0 : goal.returns-then-l-eq0
-returns-then-l-eq0 c =
-    no-values c.args.text.now c.read_field-t.ensures (ap (5 +◌) c.decimal_length-second.ensures.0) c.read_field-m.ensures
-    (ap (λ x. 5 + c.decimal_length-second.result + 1 + x) c.decimal_length.ensures.0) c.read_field-l.ensures c.if-l-eq0.true
-
-pub decimal_length-requires-2 : goal.decimal_length-requires-2
-decimal_length-requires-2 c = omega (arith, (c.read_field-l.ensures.right (omega (arith, c.if-l-eq0.false))).1)
-
-pub returns-then-not-is_at : goal.returns-then-not-is_at
-returns-then-not-is_at c =
-    no_end c.args.text.now c.read_field-t.ensures (ap (5 +◌) c.decimal_length-second.ensures.0) c.read_field-m.ensures
-    (ap (λ x. 5 + c.decimal_length-second.result + 1 + x) c.decimal_length.ensures.0) c.read_field-l.ensures
-    (ap (λ x. 5 + c.decimal_length-second.result + 1 + c.decimal_length.result + 1 + x) c.decimal_length-2.ensures.0) (c.is_at.ensures.no c.if-not-is_at.true)
-
-pub returns : goal.returns
-returns c =
-    head_passes c.args.text.now c.read_field-t.ensures (ap (5 +◌) c.decimal_length-second.ensures.0) c.read_field-m.ensures
-    (ap (λ x. 5 + c.decimal_length-second.result + 1 + x) c.decimal_length.ensures.0) c.read_field-l.ensures
-    (ap (λ x. 5 + c.decimal_length-second.result + 1 + c.decimal_length.result + 1 + x) c.decimal_length-2.ensures.0) (c.word_at.ensures.yes c.if-not-word_at.false).1 (omega (arith, c.if-t-eq0.false)) (omega (arith, c.if-m-eq0.false)) (omega (arith, c.if-l-eq0.false))
-    (c.is_at.ensures.yes c.if-not-is_at.false).1
+pub returns-in_err-text-2 : goal.returns-in_err-text-2
+returns-in_err-text-2 c =
+    rw c.from_residual-in_err-text-2.ensures
+    (no_end c.args.text.now (word (goal.at.returns-in_err-text-2 c).In_ok-text) c.in_ok-threshold.ensures c.in_ok-rows.ensures c.in_ok-values.ensures
+    (other_word c.in_ok-values.text.now (10 ∷ []) c.in_err-text-2.ensures.cases))

@@ -1,52 +1,23 @@
--- `read_row` meets its contract: each test that fails shows that no row's line stands there.
-use mathlib.Core.Path.{ap}
-use Prim.Native.Nat.{◌+◌}
-use native.Mathlib.Omega.{arith}
-use Rattle.reader.proofs.RowLineRead.{no_word, no_id, no-tab, no-values, no_end, row_passes}
+-- `read_row` meets its contract: each piece that is missing shows that the text begins with no row's line.
+use mathlib.Core.Path.{sym, ◌∙◌}
+use Rattle.std.proofs.Common.{rules}
+use Rattle.reader.proofs.DigitsRead.{no-yes}
+use Rattle.reader.proofs.RowLineRead.{no-start, no_room, no-values, no_end, row_passes}
 use Rattle.reader.proofs.lines.read_row.Goals as goal
 
-pub returns-then-not-word_at : goal.returns-then-not-word_at
-returns-then-not-word_at c =
-    let a = c.args in
-    no_word a.text.now a.at a.l (c.word_at.ensures.no c.if-not-word_at.true)
+pub returns-in_err-id : goal.returns-in_err-id
+returns-in_err-id c = search (rules, no-start c.args.text.now c.args.l)
 
-pub read_field-id-requires : goal.read_field-id-requires
-read_field-id-requires c = (omega (arith, (c.word_at.ensures.yes c.if-not-word_at.false).0), omega arith, omega arith)
+pub returns-in_err-digits : goal.returns-in_err-digits
+returns-in_err-digits c = search (rules, no_room c.args.text.now c.args.l)
 
-pub returns-then-id-eq0 : goal.returns-then-id-eq0
-returns-then-id-eq0 c =
-    let a = c.args in
-    no_id a.text.now a.at a.l c.read_field-id.ensures c.if-id-eq0.true
+pub returns-then-not-all_hex : goal.returns-then-not-all_hex
+returns-then-not-all_hex c =
+    no-values c.args.text.now c.args.l c.in_ok-id.ensures
+    (λ h. no-yes (sym c.if-not-all_hex.true ∙ c.all_hex.ensures.1 (rw c.in_ok-digits.ensures.cases.1 h)))
 
-pub decimal_length-requires : goal.decimal_length-requires
-decimal_length-requires c = omega (arith, (c.read_field-id.ensures.right (omega (arith, c.if-id-eq0.false))).1)
-
-pub returns-then-not-is_at : goal.returns-then-not-is_at
-returns-then-not-is_at c =
-    let a = c.args in
-    no-tab a.text.now a.at a.l c.read_field-id.ensures (ap (a.at + 4 +◌) c.decimal_length.ensures.0)
-    (c.is_at.ensures.no c.if-not-is_at.true)
-
-pub hex_at-requires : goal.hex_at-requires
-hex_at-requires c = omega (arith, (c.is_at.ensures.yes c.if-not-is_at.false).0)
-
-pub returns-then-not-hex_at : goal.returns-then-not-hex_at
-returns-then-not-hex_at c =
-    let a = c.args in
-    no-values a.text.now a.at a.l c.read_field-id.ensures (ap (a.at + 4 +◌) c.decimal_length.ensures.0)
-    (c.hex_at.ensures.no c.if-not-hex_at.true)
-
-pub returns-then-not-is_at-2 : goal.returns-then-not-is_at-2
-returns-then-not-is_at-2 c =
-    let a = c.args in
-    no_end a.text.now a.at a.l c.read_field-id.ensures (ap (a.at + 4 +◌) c.decimal_length.ensures.0)
-    (c.is_at-2.ensures.no c.if-not-is_at-2.true)
+pub returns-in_err-text : goal.returns-in_err-text
+returns-in_err-text c = search (rules, no_end c.args.text.now c.args.l)
 
 pub returns : goal.returns
-returns c =
-    let a = c.args in
-    row_passes a.text.now a.at a.l c.read_field-id.ensures (ap (a.at + 4 +◌) c.decimal_length.ensures.0)
-    (omega (arith, c.if-id-eq0.false)) (c.hex_at.ensures.yes c.if-not-hex_at.false)
-    (c.word_at.ensures.yes c.if-not-word_at.false).1
-    (c.is_at.ensures.yes c.if-not-is_at.false).1
-    (c.is_at-2.ensures.yes c.if-not-is_at-2.false).1
+returns c = search (rules, row_passes c.args.text.now c.args.l)

@@ -1,62 +1,49 @@
 -- `read_sheet` meets its contract.
-use Prim.Native.Nat.{◌+◌, ◌<◌}
-use native.Mathlib.Nat.{mul-le-mul_right}
-use native.Mathlib.Omega.{arith}
-use Rattle.reader.proofs.SheetRead.{head-inside, wrong_there, found, rows_long, refuses-text, refuses-head, refuses-room, reads_sheet}
+use mathlib.Core.Path.{◌≡◌, sym}
+use Rattle.std.proofs.lemmas.Option.{MatchOption-at_some, MatchOption-at_none}
+use Rattle.std.proofs.lemmas.Result.{err_from_is_err_and}
+use Rattle.answer.specs.declared.Reason.TheVariants.{InvalidSheet}
+use Rattle.reader.specs.Taking.{HeadRead, SomeRows}
+use Rattle.reader.proofs.SheetRead.{judged_ok, judged_err, refuses-text, refuses-line, refuses-head, refuses-room, reads_sheet}
 use Rattle.reader.proofs.read.read_sheet.Goals as goal
+use Rattle.reader.proofs.read.read_sheet.Goals.{In_ok-numbers, In_ok-map_err}
 
-pub returns-then-t-eq0 : goal.returns-then-t-eq0
-returns-then-t-eq0 c = let a = c.args in refuses-text a.text.now a.head.now a.out.now 0 (c.read_head-first.ensures.wrong c.if-t-eq0.true)
+head : (c : In_ok-numbers) → let n = c.in_ok-numbers.numbers in HeadRead c.args.text.now n.threshold n.rows n.values c.in_ok-numbers.lines.now
+head c = MatchOption-at_some _ _ (c.in_ok-numbers.numbers, c.in_ok-numbers.lines) c.in_ok-numbers.ensures.ok_part c.read_head.ensures
 
-pub head_length-start-requires : goal.head_length-start-requires
-head_length-start-requires c = let h = (c.read_head-first.ensures.right (omega (arith, c.if-t-eq0.false))).0 in (h.threshold_most, omega (arith, h.rows_most), h.values_most)
+rows : (c : In_ok-map_err) → SomeRows c.in_ok-numbers.lines.now c.in_ok-numbers.numbers.rows c.in_ok-numbers.numbers.values
+rows c = judged_ok _ c.judge_lines.result c.judge_lines.ensures (sym c.in_ok-map_err.ensures.variant)
 
-pub wrong_line-line-requires : goal.wrong_line-line-requires
-wrong_line-line-requires c =
-    let first = c.read_head-first.ensures in
-    let some : 0 < c.read_head-first.result.threshold = omega (arith, c.if-t-eq0.false) in
-    let h = (first.right some).0 in
-    (head-inside first some c.head_length-start.ensures.0, h.rows_most, h.values_most)
-
-pub returns-then-line-ne0 : goal.returns-then-line-ne0
-returns-then-line-ne0 c =
+pub returns-in_err-numbers : goal.returns-in_err-numbers
+returns-in_err-numbers c =
     let a = c.args in
-    refuses-text a.text.now a.head.now a.out.now _ (wrong_there c.read_head-first.ensures (omega (arith, c.if-t-eq0.false)) c.head_length-start.ensures.0 c.wrong_line-line.ensures (omega (arith, c.if-line-ne0.true)))
+    let p = err_from_is_err_and c.from_residual.result c.from_residual.ensures.1 in
+    let v = rw c.in_err-numbers.ensures.ok_part at c.in_err-numbers.ensures.value in
+    let reason : c.in_err-numbers.field-0.0 ≡ InvalidSheet 0 = cc in
+    rw (p.1, p.2, reason) (refuses-text a.text.now a.head.now a.out.now 0 (MatchOption-at_none _ _ c.in_err-numbers.ensures.ok_part c.read_head.ensures))
+
+pub returns-in_err-map_err : goal.returns-in_err-map_err
+returns-in_err-map_err c =
+    let a = c.args in
+    let p = err_from_is_err_and c.from_residual-in_err-map_err.result c.from_residual-in_err-map_err.ensures.1 in
+    let k = judged_err _ _ InvalidSheet c.judge_lines.result c.in_err-map_err.field-0.0 c.judge_lines.ensures c.in_err-map_err.ensures.cases in
+    rw (p.1, p.2, k.2) (refuses-line a.text.now a.head.now a.out.now (head (goal.at.returns-in_err-map_err c).In_ok-numbers) k.0 k.1)
 
 pub returns-then-head-lt-HEAD_BYTES : goal.returns-then-head-lt-HEAD_BYTES
 returns-then-head-lt-HEAD_BYTES c =
     let a = c.args in
-    let stands = c.wrong_line-line.ensures.right c.if-line-ne0.false in
-    let sheet = found c.read_head-first.ensures (omega (arith, c.if-t-eq0.false)) c.head_length-start.ensures.0 stands.1 in
-    refuses-head a.text.now a.head.now a.out.now _ _ stands.0 sheet c.if-head-lt-HEAD_BYTES.true
-
-pub overflow_add-count : goal.overflow_add-count
-overflow_add-count c = omega (arith, (c.read_head-first.ensures.right (omega (arith, c.if-t-eq0.false))).0.values_most)
-
-pub overflow_mul-count : goal.overflow_mul-count
-overflow_mul-count c =
-    let h = (c.read_head-first.ensures.right (omega (arith, c.if-t-eq0.false))).0 in
-    omega (arith, mul-le-mul_right (c.read_head-first.result.values + 1) h.rows_most, h.values_most)
+    let at = goal.at.returns-then-head-lt-HEAD_BYTES c in
+    refuses-head a.text.now a.head.now a.out.now (head at.In_ok-numbers) (rows at.In_ok-map_err) c.if-head-lt-HEAD_BYTES.true
 
 pub returns-then-out-count : goal.returns-then-out-count
 returns-then-out-count c =
     let a = c.args in
-    let stands = c.wrong_line-line.ensures.right c.if-line-ne0.false in
-    let sheet = found c.read_head-first.ensures (omega (arith, c.if-t-eq0.false)) c.head_length-start.ensures.0 stands.1 in
-    refuses-room a.text.now a.head.now a.out.now _ _ stands.0 sheet (omega (arith, c.if-out-count.true, rows_long stands.1))
-
-pub put_numbers-requires : goal.put_numbers-requires
-put_numbers-requires c =
-    let h = (c.read_head-first.ensures.right (omega (arith, c.if-t-eq0.false))).0 in
-    (omega (arith, h.threshold_most), omega (arith, h.rows_most), omega (arith, h.values_most), c.if-head-lt-HEAD_BYTES.false)
-
-pub take_rows-requires : goal.take_rows-requires
-take_rows-requires c = (c.wrong_line-line.ensures.right c.if-line-ne0.false, c.if-out-count.false)
+    let at = goal.at.returns-then-out-count c in
+    refuses-room a.text.now a.head.now a.out.now (head at.In_ok-numbers) (rows at.In_ok-map_err) c.if-out-count.true
 
 pub returns : goal.returns
 returns c =
     let a = c.args in
-    let stands = c.wrong_line-line.ensures.right c.if-line-ne0.false in
-    let sheet = found c.read_head-first.ensures (omega (arith, c.if-t-eq0.false)) c.head_length-start.ensures.0 stands.1 in
-    reads_sheet a.text.now a.head.now a.out.now _ _ stands.0 sheet stands.1.count (rows_long stands.1) c.if-head-lt-HEAD_BYTES.false c.if-out-count.false c.put_numbers.ensures
-    (c.take_rows.ensures.takes stands.0 stands.1)
+    let at = goal.at.returns c in
+    reads_sheet a.text.now a.head.now a.out.now (head at.In_ok-numbers) (rows at.In_ok-map_err) c.if-head-lt-HEAD_BYTES.false c.if-out-count.false
+    c.put_numbers.ensures c.take_rows.ensures

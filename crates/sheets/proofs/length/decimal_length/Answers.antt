@@ -4,17 +4,17 @@ use native.Mathlib.Omega.{arith}
 use Rattle.sheets.proofs.Decimal.{length-decimal-small, digits}
 use Rattle.sheets.proofs.length.decimal_length.Goals as goal
 
-pub returns-then-n-lt10 : goal.returns-then-n-lt10
-returns-then-n-lt10 c = (sym (length-decimal-small c.args.n c.if-n-lt10.true), omega arith)
+pub returns-in-0-to-9 : goal.returns-in-0-to-9
+returns-in-0-to-9 c = (sym (length-decimal-small c.args.n (omega arith)), omega arith)
 
-pub returns-then-n-lt100 : goal.returns-then-n-lt100
-returns-then-n-lt100 c = (sym (digits 1 c.args.n c.if-n-lt10.false c.if-n-lt100.true), omega arith)
+pub returns-in-10-to-99 : goal.returns-in-10-to-99
+returns-in-10-to-99 c = (sym (digits 1 c.args.n (omega arith) (omega arith)), omega arith)
 
-pub returns-then-n-lt1000 : goal.returns-then-n-lt1000
-returns-then-n-lt1000 c = (sym (digits 2 c.args.n c.if-n-lt100.false c.if-n-lt1000.true), omega arith)
+pub returns-in-100-to-999 : goal.returns-in-100-to-999
+returns-in-100-to-999 c = (sym (digits 2 c.args.n (omega arith) (omega arith)), omega arith)
 
-pub returns-then-n-lt10000 : goal.returns-then-n-lt10000
-returns-then-n-lt10000 c = (sym (digits 3 c.args.n c.if-n-lt1000.false c.if-n-lt10000.true), omega arith)
+pub returns-in-1000-to-9999 : goal.returns-in-1000-to-9999
+returns-in-1000-to-9999 c = (sym (digits 3 c.args.n (omega arith) (omega arith)), omega arith)
 
-pub returns : goal.returns
-returns c = (sym (digits 4 c.args.n c.if-n-lt10000.false c.requires), omega arith)
+pub returns-in_default : goal.returns-in_default
+returns-in_default c = (sym (digits 4 c.args.n (omega arith) c.requires), omega arith)

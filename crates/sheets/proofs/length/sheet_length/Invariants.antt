@@ -1,6 +1,6 @@
 -- `sheet_length` meets its contract: after i turns the first line and those of the first i rows are counted.
 use mathlib.Core.Path.{◌≡◌}
-use Prim.Native.Nat.{◌+◌, ◌*◌, ◌-◌, ◌≤◌}
+use Prim.Native.Nat.{◌+◌, ◌*◌, ◌≤◌}
 use lib.ListN.{length}
 use Rattle.row_set.specs.Limits.{max_secret}
 use Rattle.sheets.specs.Sheet.{head_line}
@@ -10,7 +10,4 @@ use Rattle.sheets.proofs.length.sheet_length.Given as goal
 -- the second bound keeps the sum from growing too large
 abbrev pub invariant-loop-i : goal.invariant-loop-i
 invariant-loop-i l =
-    (l.i ≤ l.m) × (l.at ≡ l.i * (l.l + 1)) × (l.n ≡ length (head_line l.threshold l.m l.l) + length (lines_to l.i (l.l + 1) l.rows)) × (l.n ≤ 23 + l.i * (2 * max_secret + 11))
-
-abbrev pub decreases-loop-i : goal.decreases-loop-i
-decreases-loop-i l = l.m - l.i
+    (l.n ≡ length (head_line l.head.threshold l.head.rows l.head.values) + length (lines_to l.i l.w l.rows)) × (l.n ≤ 23 + l.i * (2 * max_secret + 11))

@@ -4,18 +4,7 @@ use mathlib.Core.Path.{◌≡◌, refl, sym, ap, ◌∙◌}
 use mathlib.Core.Bool.{Bool, true, false}
 use Prim.Native.Nat.{ℕ}
 use native.Mathlib.Omega.{arith}
-use Rattle.answer.specs.Outcome.{Outcome, done, refused, refuse, number_of, first_of, second_of}
-use Rattle.answer.specs.Answers.{reason_of, answer_of}
-use Rattle.std.specs.Prelude.{Result, Ok, Err}
-use Rattle.answer.specs.declared.Reason.{Reason}
-use Rattle.answer.proofs.Meaning.{refusal}
-
--- what the code's answers are, once it has told them apart
-pub told-done : {a : Result ℕ Reason} {l : ℕ} → a ≡ Ok l → answer_of a ≡ done l
-told-done e = ap answer_of e
-
-pub told-refused : {a : Result ℕ Reason} {r : Reason} → a ≡ Err r → answer_of a ≡ refused (number_of (reason_of r)) (first_of (reason_of r)) (second_of (reason_of r))
-told-refused {r = r} e = ap answer_of e ∙ refusal r
+use Rattle.answer.specs.Outcome.{Outcome, done, refused, refuse}
 
 pub record Chain (f : Outcome → Outcome) : Type 0 where
   pub goes_on : (l n : ℕ) (later : Outcome) → f (done l) ≡ done n → (l ≡ n) × (f later ≡ later)

@@ -24,29 +24,10 @@ use Rattle.row_set.proofs.Chains.{Chain, end, then, passed}
 
 -- ---- what the lengths decide
 
-module _ (enough : ℕ) (s ns : List ℕ) (later : Outcome) where
-  pub other-sum : eqb (sum ns) (length s) ≡ false → refused 13 0 0 ≡ judged_rows enough s ns later
-  unfolding judged
-  other-sum h = sym (simp h)
-
-  module _ (sums : eqb (sum ns) (length s) ≡ true) where
-    pub too_few : length ns < enough → refused 4 0 0 ≡ judged_rows enough s ns later
-    unfolding judged
-    too_few h = sym (simp (sums, lt-ltb _ _ h))
-
-    module _ (many : enough ≤ length ns) where
-      pub too_short : first_length ns < 2 → refused 8 0 0 ≡ judged_rows enough s ns later
-      unfolding judged
-      too_short h = sym (simp (sums, le-ltb _ _ many, lt-ltb _ _ h))
-
-      module _ (long : 2 ≤ first_length ns) where
-        pub unequal : all_are (first_length ns) ns ≡ false → refused 8 0 0 ≡ judged_rows enough s ns later
-        unfolding judged
-        unequal h = sym (simp (sums, le-ltb _ _ many, le-ltb _ _ long, h))
-
-        pub after_lengths : all_are (first_length ns) ns ≡ true → judged_rows enough s ns later ≡ judged_identifiers (secret_length ns) (identifiers (cut ns s)) later
-        unfolding judged
-        after_lengths h = simp (sums, le-ltb _ _ many, le-ltb _ _ long, h)
+pub after_lengths : (enough : ℕ) (s ns : List ℕ) (later : Outcome) → eqb (sum ns) (length s) ≡ true → enough ≤ length ns → 2 ≤ first_length ns → all_are (first_length ns) ns ≡ true
+    → judged_rows enough s ns later ≡ judged_identifiers (secret_length ns) (identifiers (cut ns s)) later
+unfolding judged
+after_lengths enough s ns later sums many long h = simp (sums, le-ltb _ _ many, le-ltb _ _ long, h)
 
 -- lengths that are all w are as many times w, and the identifiers stand w apart
 module _ (ns : List ℕ) (w m : ℕ) (equal : all_are w ns ≡ true) (count : length ns ≡ m) where

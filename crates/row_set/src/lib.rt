@@ -43,6 +43,7 @@ fn judge_equal_rows(rows: &[u8], w: usize, m: usize) -> Result<usize, Reason>
 }
 
 // Of rows that lie one after another and have these lengths, where so many are too few.
+#[tactic(auto, unfolding(crate::specs::RowSet::judged))]
 pub fn judge_rows<T: Length>(rows: &[u8], lengths: &[T], too_few: usize) -> Result<usize, Reason>
     ensures { answer_of result ≡ judged_rows (suc too_few) rows.now (T.lengths lengths.now) (done (secret_length (T.lengths lengths.now))) }
 {

@@ -1,7 +1,7 @@
 // Checks of rows that lie one after another in flat storage, and the secret that they share.
 #![tactic(auto)]
 
-ghost use Rattle.std.specs.Prelude.{◌≡◌, ℕ, List, refl, true, cond, ◌+◌, ◌*◌, ◌<◌, ◌≤◌, eqb, length, drop, replicate};
+ghost use Rattle.std.specs.Prelude.{◌≡◌, ℕ, List, refl, true, cond, ◌+◌, ◌*◌, ◌/◌, ◌<◌, ◌≤◌, eqb, length, drop, replicate};
 ghost use mathlib.Core.List.{foldr, map, zip_with};
 ghost use Rattle.std.specs.Int.Bits.{bit_xor};
 ghost use Rattle.gf256.specs.Field256.{mul256, inv256, gf256};
@@ -80,7 +80,8 @@ pub fn all_are<T: Length>(lengths: &[T], w: u32) -> bool
 
 // The lengths that come as bytes, four a row, as many as are whole. They are read where they lie, which spares a list of them.
 pub fn byte_lengths(bytes: &[u8]) -> &[[u8; 4]]
-    ensures { map four_of result.now ≡ lengths_of bytes.now }
+    ensures lengths { map four_of result.now ≡ lengths_of bytes.now }
+    ensures count { length result.now ≡ length bytes.now / 4 }
 {
     bytes.as_chunks().0
 }

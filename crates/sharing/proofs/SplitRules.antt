@@ -2,16 +2,15 @@
 -- Assumes nothing.
 use mathlib.Core.Path.{◌≡◌, ◌∙◌, sym, ap, ap₂}
 use mathlib.Core.Bool.{not}
-use mathlib.Core.List.{List}
-use Prim.Native.Nat.{ℕ, suc, ◌+◌, ◌-◌, ◌*◌, ◌<◌, ◌≤◌}
-use native.Mathlib.Nat.{mul-le-mul}
+use mathlib.Core.List.{List, ◌∷◌}
+use Prim.Native.Nat.{ℕ, suc, ◌+◌, ◌-◌, ◌<◌, ◌≤◌}
 use native.Mathlib.Numerals.{add-one}
 use native.Mathlib.Omega.{arith}
 use lib.Dec.{eqb, ltb}
 use lib.ListN.{length, drop, get_or, drop_of_length-le}
 use lib.Seq.{drop-cons}
 use Rattle.answer.specs.Outcome.{Outcome, done, refused, refuse}
-use Rattle.row_set.specs.Limits.{max_secret, max_shares}
+use Rattle.row_set.specs.Limits.{max_secret}
 use Rattle.sharing.specs.Split.{in_turn, coefficient_count, split_room}
 
 -- what comes after the identifiers
@@ -32,16 +31,8 @@ module _ (n i : ℕ) (ids : List ℕ) (later : Outcome) where
       let m : n - i ≡ suc (n - (i + 1)) = omega arith in
       ap₂ (λ m l. in_turn i m l later) m (drop_of_length-le ids e)
 
-  pub turn_next : i < n → i < length ids
-      → from_place ≡ refuse (eqb (get_or ids i 0) 0) (refused 6 i 0) (in_turn (i + 1) (n - (i + 1)) (drop (i + 1) ids) later)
-  turn_next h e =
+  pub turn_next : (x : ℕ) → i < n → i < length ids → x ≡ get_or ids i x → from_place ≡ refuse (eqb x 0) (refused 6 i 0) (in_turn (i + 1) (n - (i + 1)) (drop (i + 1) ids) later)
+  turn_next x h e at =
       let m : n - i ≡ suc (n - (i + 1)) = omega arith in
-      ap₂ (λ m l. in_turn i m l later) m (drop-cons ids i 0 e)
-      ∙ ap (λ j. refuse (eqb (get_or ids i 0) 0) (refused 6 i 0) (in_turn j (n - (i + 1)) (drop j ids) later)) (sym (add-one i))
-
-  pub turn_end : n ≤ i → from_place ≡ later
-  turn_end h = let z : n - i ≡ 0 = omega arith in ap (λ m. in_turn i m (drop i ids) later) z
-
--- below the limits a product is far from what a machine number holds
-pub small : (a b : ℕ) → a ≤ max_secret + 1 → b ≤ max_shares → (a * b ≤ (max_secret + 1) * max_shares) × (b * a ≤ max_shares * (max_secret + 1))
-small a b ha hb = (mul-le-mul ha hb, mul-le-mul hb ha)
+      ap₂ (λ m l. in_turn i m l later) m (drop-cons ids i x e ∙ ap (◌∷ drop (suc i) ids) (sym at))
+      ∙ ap (λ j. refuse (eqb x 0) (refused 6 i 0) (in_turn j (n - (i + 1)) (drop j ids) later)) (sym (add-one i))

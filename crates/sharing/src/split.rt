@@ -7,7 +7,10 @@ ghost use Rattle.sharing.specs.Split.{split_room, split_outcome, rows_of, Splits
 use answer::Reason;
 use row_set::{MAX_SECRET, MAX_SHARES};
 
-// The answer, from lengths and identifiers alone. A product is made only once the tests before it bound its factors.
+// The answer, from lengths and identifiers alone: it takes these and not the slices, nor a struct of all that a split is given, so
+// that no answer can depend on a byte of the secret or on a coefficient. A product is made only once the tests before it bound its
+// factors.
+#[tactic(auto, unfolding(crate::specs::Split::split_outcome))]
 fn split_answer(
     threshold: usize,
     limit: usize,
@@ -30,15 +33,13 @@ fn split_answer(
     if threshold < 2 {
         return Err(Reason::SharingMinThreshold);
     }
-    let mut i = 0;
-    while i < limit {
-        if ids.len() <= i {
+    for i in 0..limit {
+        let Some(id) = ids.get(i) else {
             return Err(Reason::NotEnoughShareIdentifiers);
-        }
-        if ids[i] == 0 {
+        };
+        if *id == 0 {
             return Err(Reason::SharingInvalidIdentifier(i));
         }
-        i += 1;
     }
     if MAX_SECRET < length {
         return Err(Reason::TooLong);
@@ -84,23 +85,21 @@ pub fn split_bytes_with_participant_ids_iter(
 ) -> Result<usize, Reason>
     ensures { Splits threshold limit secret.now participant_ids.now coefficients.now out.old (answer_of result) out.new }
 {
-    let answer = split_answer(
+    let count = split_answer(
         threshold,
         limit,
         secret.len(),
         participant_ids,
         coefficients.len(),
         out.len(),
+    )?;
+    write_rows(
+        limit,
+        participant_ids,
+        secret,
+        coefficients,
+        threshold - 1,
+        out,
     );
-    if let Ok(_) = answer {
-        write_rows(
-            limit,
-            participant_ids,
-            secret,
-            coefficients,
-            threshold - 1,
-            out,
-        );
-    }
-    answer
+    Ok(count)
 }

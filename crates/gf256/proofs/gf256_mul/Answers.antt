@@ -2,10 +2,10 @@
 -- product of a and b.
 use Prim.Native.Nat.{ℕ, ◌*◌, ◌<◌, ◌/◌, ◌^◌}
 use mathlib.Core.Path.{◌≡◌, refl, ◌∙◌}
-use native.Mathlib.Nat.{div-one, div-eq_of_lt, div-div-eq-div-mul, mul-le-mul_right, pow-suc}
+use native.Mathlib.Nat.{div-one, div-eq_of_lt, div-div-eq-div-mul, pow-suc}
 use native.Mathlib.Numerals.{add-one}
 use native.Mathlib.Omega.{arith}
-use lib.Bits.{bit_and, bit_xor, and_mask, and_le_r}
+use lib.Bits.{bit_and, bit_xor, and_mask}
 use Rattle.algebra.proofs.Ring.{zero-mul}
 use Rattle.poly2.specs.Poly2.{reduce}
 use Rattle.poly2.proofs.Sum.{xor_assoc}
@@ -20,22 +20,15 @@ unfolding mul256
 round q x r h = rw (and_mask q 1, xor_assoc, mul_mod_last 8 modulus refl q x h)
 
 pub loop-i-init : goal.loop-i-init
-loop-i-init c = (omega arith, omega arith, rw div-one (ring256.mul_comm c.args.b c.args.a))
-
-pub overflow_mul-r : goal.overflow_mul-r
-overflow_mul-r c = omega (arith, mul-le-mul_right c.loop-i.x (and_le_r (c.args.b / 2 ^ c.loop-i.i) 1))
+loop-i-init c = rw div-one (ring256.mul_comm c.args.b c.args.a)
 
 pub loop-i-preserved : goal.loop-i-preserved
 loop-i-preserved c =
     let l = c.loop-i in
-    let q = c.args.b / 2 ^ l.i in (
-      omega arith,
-      omega arith,
-      rw (c.xtime-x.ensures, add-one, pow-suc, ← div-div-eq-div-mul) (round q l.x l.r l.invariant.1 ∙ l.invariant.2),
-    )
+    rw (c.xtime-x.ensures, add-one, pow-suc, ← div-div-eq-div-mul) (round (c.args.b / 2 ^ l.i) l.x l.r (omega arith) ∙ l.invariant)
 
 pub returns : goal.returns
 returns c =
     let l = c.loop-i in
     let e : l.i ≡ 8 = omega arith in
-    rw (e, div-eq_of_lt c.ranges.b.fits, zero-mul ring256 l.x, ring256.add-zero l.r) at l.invariant.2
+    rw (e, div-eq_of_lt c.ranges.b.fits, zero-mul ring256 l.x, ring256.add-zero l.r) at l.invariant

@@ -5,5 +5,5 @@ use Rattle.rows.specs.Lengths.{four_of}
 use Rattle.rows.proofs.Lengths.{chunks_are}
 use Rattle.rows.proofs.byte_lengths.Goals as goal
 
-pub returns : goal.returns
-returns c = ap (map four_of) c.as_chunks.ensures.front ∙ chunks_are c.args.bytes.now
+pub returns-clause-lengths : goal.returns-clause-lengths
+returns-clause-lengths c = ap (map four_of) c.as_chunks.ensures.front ∙ chunks_are c.args.bytes.now

@@ -88,12 +88,13 @@ pub fn split_bytes_with_participant_ids_iter(
         out.len(),
     );
     if let Answer::Done(_) = answer {
+        let ids = &participant_ids[..limit];
         let polynomials = Polynomials {
             secret,
             coefficients,
             k: threshold - 1,
         };
-        write_rows(&participant_ids[..limit], &polynomials, out);
+        write_rows(ids, &polynomials, out);
     }
     answer
 }

@@ -24,8 +24,8 @@ so_many c = length-take-le c.args.limit c.args.participant_ids.now (omega (arith
 pub overflow_sub-polynomials : goal.overflow_sub-polynomials
 overflow_sub-polynomials c = omega (arith, allowed (goal.at.overflow_sub-polynomials c).In-Done)
 
-pub slice_bounds-write_rows-end : goal.slice_bounds-write_rows-end
-slice_bounds-write_rows-end c = sym (so_many (goal.at.slice_bounds-write_rows-end c).In-Done)
+pub slice_bounds-ids-end : goal.slice_bounds-ids-end
+slice_bounds-ids-end c = sym (so_many (goal.at.slice_bounds-ids-end c).In-Done)
 
 pub invariant_of-polynomials : goal.invariant_of-polynomials
 invariant_of-polynomials c =

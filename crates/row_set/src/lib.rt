@@ -2,14 +2,15 @@
 // refusal up to 10.
 #![tactic(auto)]
 
-ghost use Rattle.std.specs.Prelude.{◌≡◌, suc, ◌*◌, ◌-◌, ◌<◌, length};
+ghost use Rattle.std.specs.Prelude.{◌≡◌, suc, ◌-◌, ◌<◌};
 ghost use Rattle.answer.specs.Outcome.{done};
 ghost use Rattle.answer.specs.Answers.{answer_of};
 ghost use Rattle.rows.specs.Lengths.{lengths_of};
-ghost use Rattle.strides.specs.Strides.{strided};
+ghost use Rattle.rows.specs.Identifiers.{row_ids};
 ghost use Rattle.row_set.specs.RowSet.{secret_length, judged_identifiers, judged_rows, judged_byte_lengths};
 
 use answer::{Answer, Reason};
+use rows::Rows;
 
 // The longest secret: more is refusal 10.
 pub const MAX_SECRET: usize = 65536;
@@ -20,21 +21,19 @@ pub const MAX_SHARES: usize = 255;
 // The most rows whose lengths may come as bytes: more is refusal 13.
 const MAX_ROWS: usize = 65535;
 
-// What is left once the lengths are judged: m rows of w bytes each fill the storage. A zero anywhere comes before a repeat.
-fn judge_equal_rows(rows: &[u8], w: usize, m: usize) -> Answer
-    requires { (m * w ≡ length rows.now) × (1 < w) }
-    ensures { answer_of result ≡ judged_identifiers (w - 1) (strided w 0 m rows.now) (done (w - 1)) }
+// What is left once the lengths are judged. A zero anywhere comes before a repeat.
+fn judge_equal_rows(rows: &Rows) -> Answer
+    requires { 1 < rows.now.width }
+    ensures { answer_of result ≡ judged_identifiers (rows.now.width - 1) (row_ids rows.now) (done (rows.now.width - 1)) }
 {
-    let z = rows::find(rows, w, m, 0, 0);
-    let j = rows::first_repeating(rows, w, m);
-    if z < m {
+    if let Some(z) = rows.find(0, 0) {
         return Answer::Refused(Reason::SharingInvalidIdentifier(z));
     }
-    if j < m {
-        let i = rows::first_repeated(rows, w, m, j);
+    if let Some(j) = rows.first_repeating() {
+        let i = rows.first_repeated(j);
         return Answer::Refused(Reason::SharingDuplicateIdentifier(i, j));
     }
-    let l = w - 1;
+    let l = rows.width - 1;
     if MAX_SECRET < l {
         return Answer::Refused(Reason::TooLong);
     }
@@ -59,7 +58,11 @@ pub fn judge_rows(rows: &[u8], lengths: &[u32], too_few: usize) -> Answer
     if !rows::all_are(lengths, w) {
         return Answer::Refused(Reason::InvalidShare);
     }
-    judge_equal_rows(rows, w as usize, m)
+    judge_equal_rows(&Rows {
+        bytes: rows,
+        width: w as usize,
+        count: m,
+    })
 }
 
 // As judge_rows, for lengths that are read where they lie as bytes, so that few rows cost little.
@@ -80,7 +83,11 @@ fn judge_reading_lengths(rows: &[u8], bytes: &[u8], too_few: usize) -> Answer
     if !rows::byte_lengths_are(bytes, w) {
         return Answer::Refused(Reason::InvalidShare);
     }
-    judge_equal_rows(rows, w as usize, m)
+    judge_equal_rows(&Rows {
+        bytes: rows,
+        width: w as usize,
+        count: m,
+    })
 }
 
 // The same for the host, from which the lengths come as bytes, four a row, least first.

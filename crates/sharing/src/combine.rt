@@ -1,5 +1,5 @@
 // Rows are combined into the secret: once they are judged, the room for it, and then the values at 0.
-ghost use Rattle.std.specs.Prelude.{◌+◌};
+ghost use Rattle.std.specs.Prelude.{◌-◌};
 ghost use Rattle.answer.specs.Answers.{answer_of};
 ghost use Rattle.rows.specs.Combining.{Ready};
 ghost use Rattle.sharing.specs.Combine.{Combines, CombinesAccepted};
@@ -7,16 +7,18 @@ ghost use Rattle.sharing.specs.ByteLengths.{CombinesByByteLengths};
 
 use answer::{Answer, Reason};
 use row_set::{judge_rows, judge_rows_by_byte_lengths};
+use rows::Rows;
 
-// Of m accepted rows with l values each.
-fn combine_accepted(rows: &[u8], m: usize, l: usize, out: &mut [u8]) -> Answer
-    requires { Ready (l + 1) m rows.now }
-    ensures { CombinesAccepted l m rows.now out.old (answer_of result) out.new }
+// Of accepted rows.
+fn combine_accepted(rows: &Rows, out: &mut [u8]) -> Answer
+    requires { Ready rows.now.width rows.now.count rows.now.bytes.now }
+    ensures { CombinesAccepted (rows.now.width - 1) rows.now.count rows.now.bytes.now out.old (answer_of result) out.new }
 {
+    let l = rows.width - 1;
     if out.len() < l {
         return Answer::Refused(Reason::NoRoom);
     }
-    rows::combine_rows(&mut out[..l], rows, m);
+    rows.combine_rows(&mut out[..l]);
     Answer::Done(l)
 }
 
@@ -28,7 +30,12 @@ pub fn combine_bytes(rows: &[u8], lengths: &[u32], out: &mut [u8]) -> Answer
     let Answer::Done(l) = judged else {
         return judged;
     };
-    combine_accepted(rows, lengths.len(), l, out)
+    let accepted = Rows {
+        bytes: rows,
+        width: l + 1,
+        count: lengths.len(),
+    };
+    combine_accepted(&accepted, out)
 }
 
 // The same for the host, from which the lengths come as bytes, four a row, least first.
@@ -39,5 +46,10 @@ pub fn combine_bytes_by_byte_lengths(rows: &[u8], lengths: &[u8], out: &mut [u8]
     let Answer::Done(l) = judged else {
         return judged;
     };
-    combine_accepted(rows, lengths.len() / 4, l, out)
+    let accepted = Rows {
+        bytes: rows,
+        width: l + 1,
+        count: lengths.len() / 4,
+    };
+    combine_accepted(&accepted, out)
 }

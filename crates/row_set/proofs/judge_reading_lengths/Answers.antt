@@ -36,13 +36,15 @@ returns-then-not-byte_lengths_are c =
     unequal (suc a.too_few) a.rows.now ns _ (sym c.byte_lengths_sum_to.ensures ∙ c.if-not-byte_lengths_sum_to.false) (omega arith) (omega (arith, w, c.if-w-lt2.false))
     (ap (λ v. all_are v ns) (sym w) ∙ (sym c.byte_lengths_are.ensures ∙ c.if-not-byte_lengths_are.true))
 
-pub judge_equal_rows-requires : goal.judge_equal_rows-requires
-judge_equal_rows-requires c =
-    let a = c.args in
-    let bs = a.bytes.now in
+pub invariant_of-judge_equal_rows : goal.invariant_of-judge_equal_rows
+invariant_of-judge_equal_rows c =
+    let bs = c.args.bytes.now in
     let equal = sym c.byte_lengths_are.ensures ∙ c.if-not-byte_lengths_are.false in
     let sums = sym c.byte_lengths_sum_to.ensures ∙ c.if-not-byte_lengths_sum_to.false in
-    (fills (lengths_of bs) c.length_at-w.result (length bs / 4) equal (length-lengths bs) (length a.rows.now) sums, omega arith)
+    record {
+      some = omega arith;
+      stored = omega (arith, fills (lengths_of bs) c.length_at-w.result (length bs / 4) equal (length-lengths bs) (length c.args.rows.now) sums);
+    }
 
 pub returns : goal.returns
 returns c =

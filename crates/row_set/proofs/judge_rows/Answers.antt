@@ -30,11 +30,16 @@ returns-then-not-all_are c =
 pub overflow_cast-w : goal.overflow_cast-w
 overflow_cast-w c = omega (arith, c.type_inv.lengths 0)
 
-pub judge_equal_rows-requires : goal.judge_equal_rows-requires
-judge_equal_rows-requires c =
-    let a = c.args in
-    let ns = a.lengths.now in
-    (fills ns (get_or ns 0 0) (length ns) (sym c.all_are.ensures ∙ c.if-not-all_are.false) refl (length a.rows.now) (sym c.sums_to.ensures ∙ c.if-not-sums_to.false), omega arith)
+pub invariant_of-judge_equal_rows : goal.invariant_of-judge_equal_rows
+invariant_of-judge_equal_rows c =
+    let ns = c.args.lengths.now in
+    record {
+      some = omega arith;
+      stored = omega (
+        arith,
+        fills ns (get_or ns 0 0) (length ns) (sym c.all_are.ensures ∙ c.if-not-all_are.false) refl (length c.args.rows.now) (sym c.sums_to.ensures ∙ c.if-not-sums_to.false),
+      );
+    }
 
 pub returns : goal.returns
 returns c =

@@ -1,18 +1,32 @@
 -- `combine_bytes_by_byte_lengths` meets its contract: what the checks refuse is refused, and accepted rows are combined.
-use mathlib.Core.Path.{sym, ◌∙◌}
+use Prim.Native.Nat.{◌+◌, ◌-◌, ◌/◌}
+use mathlib.Core.Path.{◌≡◌, sym, ◌∙◌}
+use native.Mathlib.Omega.{arith}
+use lib.ListN.{length}
+use Rattle.rows.specs.Lengths.{lengths_of}
 use Rattle.row_set.proofs.Chains.{told-done, told-refused}
-use Rattle.row_set.proofs.RowSet.{accepted-bytes}
+use Rattle.row_set.proofs.RowSet.{AcceptedRows, accepted-bytes}
 use Rattle.sharing.proofs.CombineAccepted.{refuses-bytes, combines_bytes}
 use Rattle.sharing.proofs.combine.combine_bytes_by_byte_lengths.Goals as goal
+use Rattle.sharing.proofs.combine.combine_bytes_by_byte_lengths.Goals.{In-Done}
 
 pub returns-in_default : goal.returns-in_default
 returns-in_default c =
     refuses-bytes c.args.rows.now c.args.lengths.now c.args.out.now (told-refused c.in_default.is) c.judge_rows_by_byte_lengths-judged.ensures
 
+accepted : (c : In-Done) → AcceptedRows 2 c.args.rows.now (lengths_of c.args.lengths.now) (length c.args.lengths.now / 4) c.in-Done.l
+accepted c = accepted-bytes 2 c.args.rows.now c.args.lengths.now c.in-Done.l (sym c.judge_rows_by_byte_lengths-judged.ensures ∙ told-done c.in-Done.is)
+
+pub overflow_add-accepted : goal.overflow_add-accepted
+overflow_add-accepted c = record { fits = omega (arith, (accepted (goal.at.overflow_add-accepted c).In-Done).most) }
+
+pub invariant_of-accepted : goal.invariant_of-accepted
+invariant_of-accepted c = record { some = omega arith; stored = (accepted (goal.at.invariant_of-accepted c).In-Done).ready.stored }
+
 pub combine_accepted-requires : goal.combine_accepted-requires
-combine_accepted-requires c =
-    (accepted-bytes 2 c.args.rows.now c.args.lengths.now _ (sym c.judge_rows_by_byte_lengths-judged.ensures ∙ told-done c.in-Done.is)).ready
+combine_accepted-requires c = (accepted (goal.at.combine_accepted-requires c).In-Done).ready
 
 pub returns : goal.returns
 returns c =
-    combines_bytes c.args.rows.now c.args.lengths.now c.args.out.now (sym c.judge_rows_by_byte_lengths-judged.ensures ∙ told-done c.in-Done.is) c.combine_accepted.ensures
+    let e : c.in-Done.l + 1 - 1 ≡ c.in-Done.l = omega arith in
+    combines_bytes c.args.rows.now c.args.lengths.now c.args.out.now (sym c.judge_rows_by_byte_lengths-judged.ensures ∙ told-done c.in-Done.is) (rw e at c.combine_accepted.ensures)

@@ -10,6 +10,7 @@ ghost use Rattle.gf256.specs.Field256.{modulus, mul256, inv256};
 ghost use Rattle.gf256.specs.Answers.{gf256_answer_of, identifier_answer_of, inverse_outcome, quotient_outcome, slice_outcome};
 
 use answer::Reason;
+use util::CtIsZero;
 
 // The product with x, FIPS 197's xtime: shifted, and 0x1b for the bit that the shift drops.
 fn xtime(a: u8) -> u8
@@ -124,7 +125,7 @@ impl Gf256 {
     pub fn is_zero(self) -> u8
         ensures { result ≡ is_zero self.0 }
     {
-        util::ct_is_zero_u8(self.0)
+        self.0.ct_is_zero()
     }
 
     pub fn invert(self) -> Result<Gf256, Reason>

@@ -2,11 +2,10 @@
 -- Assumes nothing.
 use mathlib.Core.Path.{◌≡◌, ◌∙◌, sym, ap, ap₂}
 use mathlib.Core.List.{List, [], ◌∷◌, ◌++◌, append_assoc, append-nil}
-use Prim.Native.Nat.{ℕ, suc, ◌+◌, ◌-◌, ◌<◌, ◌≤◌}
-use native.Mathlib.Omega.{arith}
+use Prim.Native.Nat.{ℕ, suc, ◌+◌, ◌<◌, ◌≤◌}
 use native.Mathlib.Numerals.{add-one}
-use lib.ListN.{length, take, drop, get_or, set, length-drop, drop_of_length-le}
-use lib.Seq.{length-take-le, drop-cons, set_at, get_or_at, append_snoc, take_at, drop_at, drop-drop}
+use lib.ListN.{length, drop, get_or, set, drop_of_length-le}
+use lib.Seq.{drop-cons, set_at, get_or_at, append_snoc, take_at, drop_at, drop-drop}
 use borrow.Rule.Slice.PartMut.{put_mid}
 
 module _ (p d : List ℕ) (n : ℕ) (long : length p ≡ n) where
@@ -30,7 +29,3 @@ module _ (p d : List ℕ) (n : ℕ) (long : length p ≡ n) where
 
   pub fill_all : length d ≤ n → p ++ drop n d ≡ p
   fill_all h = ap (p ++◌) (drop_of_length-le d {i = n} h) ∙ append-nil p
-
--- as many as were lent
-pub length_part : (b e : ℕ) (l : List ℕ) → e ≤ length l → length (take (e - b) (drop b l)) ≡ e - b
-length_part b e l h = length-take-le (e - b) (drop b l) (omega (arith, length-drop b l))

@@ -1,6 +1,6 @@
--- What the inner loops of an evaluation leave, number by number, and what lengths an evaluation asks for.
+-- What the inner loops of an evaluation leave, number by number.
 -- Assumes nothing.
-use Rattle.std.specs.Prelude.{◌≡◌, List, [], ◌∷◌, ℕ, zero, suc, ◌*◌, ◌<◌, ◌≤◌, length, get_or}
+use Rattle.std.specs.Prelude.{List, [], ◌∷◌, ℕ, zero, suc, length, get_or}
 use Rattle.std.specs.Int.Bits.{bit_xor}
 use Rattle.gf256.specs.Field256.{mul256}
 
@@ -16,9 +16,3 @@ horner_step x vs cs = each (length vs) (λ i. bit_xor (mul256 (get_or vs i 0) x)
 -- the most bytes that are evaluated at once
 abbrev pub block_size : ℕ
 block_size = 64
-
--- k coefficients, at least one, for each byte of the secret, and a place for each value
-pub record Sized (k : ℕ) (secret coefficients vs : List ℕ) : Type 0 where
-  pub some : 0 < k
-  pub places : length vs ≡ length secret
-  pub enough : length secret * k ≤ length coefficients

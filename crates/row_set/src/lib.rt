@@ -5,12 +5,12 @@
 ghost use Rattle.std.specs.Prelude.{◌≡◌, true, false, map, MatchResult, suc, ◌*◌, ◌-◌, ◌<◌, length};
 ghost use Rattle.answer.specs.Outcome.{done, refused};
 ghost use Rattle.answer.specs.Answers.{reason_of, answer_of};
+ghost use Rattle.rows.specs.Identifiers.{row_ids};
 ghost use Rattle.rows.specs.Lengths.{four_of, lengths_of};
-ghost use Rattle.strides.specs.Strides.{strided};
 ghost use Rattle.row_set.specs.RowSet.{secret_length, judged_identifiers, judged_rows, unreadable, judged_byte_lengths};
 
 use answer::Reason;
-use rows::Length;
+use rows::{Length, Rows};
 
 // The longest secret: more is refusal 10.
 pub const MAX_SECRET: usize = 65536;
@@ -21,21 +21,19 @@ pub const MAX_SHARES: usize = 255;
 // The most rows whose lengths may come as bytes: more is refusal 13.
 const MAX_ROWS: usize = 65535;
 
-// What is left once the lengths are judged: m rows of w bytes each fill the storage. A zero anywhere comes before a repeat.
-fn judge_equal_rows(rows: &[u8], w: usize, m: usize) -> Result<usize, Reason>
-    requires { (m * w ≡ length rows.now) × (1 < w) }
-    ensures { answer_of result ≡ judged_identifiers (w - 1) (strided w 0 m rows.now) (done (w - 1)) }
+// What is left once the lengths are judged. A zero anywhere comes before a repeat.
+fn judge_equal_rows(rows: &Rows) -> Result<usize, Reason>
+    requires { 1 < rows.now.width }
+    ensures { answer_of result ≡ judged_identifiers (rows.now.width - 1) (row_ids rows.now) (done (rows.now.width - 1)) }
 {
-    let z = rows::find(rows, w, m, 0, 0);
-    let j = rows::first_repeating(rows, w, m);
-    if z < m {
+    if let Some(z) = rows.find(0, 0) {
         return Err(Reason::SharingInvalidIdentifier(z));
     }
-    if j < m {
-        let i = rows::first_repeated(rows, w, m, j);
+    if let Some(j) = rows.first_repeating() {
+        let i = rows.first_repeated(j);
         return Err(Reason::SharingDuplicateIdentifier(i, j));
     }
-    let l = w - 1;
+    let l = rows.width - 1;
     if MAX_SECRET < l {
         return Err(Reason::TooLong);
     }
@@ -61,7 +59,11 @@ pub fn judge_rows<T: Length>(rows: &[u8], lengths: &[T], too_few: usize) -> Resu
     if !rows::all_are(lengths, w) {
         return Err(Reason::InvalidShare);
     }
-    judge_equal_rows(rows, w as usize, m)
+    judge_equal_rows(&Rows {
+        bytes: rows,
+        width: w as usize,
+        count: m,
+    })
 }
 
 // The lengths that come as bytes from the host, four a row, least first: whole fours, and not too many. They are read where they

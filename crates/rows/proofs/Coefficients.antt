@@ -3,13 +3,14 @@
 -- Assumes nothing.
 use mathlib.Core.Path.{◌≡◌, refl, sym, ap, ap₂, ◌∙◌}
 use mathlib.Core.Bool.{Bool, true, false, cond}
-use mathlib.Core.List.{List, [], ◌∷◌, foldr, map, zip_with}
-use Prim.Native.Nat.{ℕ, suc, ◌-◌, ◌<◌, ◌≤◌}
+use mathlib.Core.List.{List, [], ◌∷◌, ◌++◌, foldr, map, zip_with}
+use Prim.Native.Nat.{ℕ, suc, ◌+◌, ◌<◌}
+use native.Mathlib.Numerals.{add-one}
 use native.Mathlib.Omega.{arith}
 use lib.Bits.{bit_xor}
 use lib.Dec.{eqb}
-use lib.ListN.{length, get_or, drop}
-use lib.Seq.{drop-cons}
+use lib.ListN.{length, get_or, take}
+use lib.Seq.{take-suc}
 use borrow.Author.Tests.{eq-eqb, ne_eqb}
 use Rattle.algebra.specs.Field.{Ops, Laws}
 use Rattle.algebra.proofs.Ring.{ring, zero-add, mul_left_comm, mul_ne-zero, cancel}
@@ -20,7 +21,7 @@ use Rattle.shamir.specs.Polynomial.{others, weight}
 use Rattle.shamir.proofs.Lists.{all_both, map_same}
 use Rattle.shamir.proofs.Lagrange.{others-lt, own_ne}
 
--- ---- the denominators, from the last identifier to the first
+-- ---- the denominators, from the first identifier to the last
 
 zip-zip : (f g h : ℕ → ℕ → ℕ) (ds xs : List ℕ) → ((d x : ℕ) → g (f d x) x ≡ h d x) → zip_with g (zip_with f ds xs) xs ≡ zip_with h ds xs
 unfolding zip_with
@@ -34,22 +35,34 @@ denominators_none [] xs e h = refl
 denominators_none (d ∷ ds) [] e h = absurd (omega arith)
 denominators_none (d ∷ ds) (x ∷ xs) e h = ap₂ ◌∷◌ (sym (ring256.mul-one d (h 0))) (denominators_none ds xs (omega arith) (λ k. h (suc k)))
 
-factor_in : (b : Bool) (d o f : ℕ) → cond b (mul256 d o) (mul256 (mul256 d o) f) ≡ mul256 d (cond b o (mul256 f o))
-factor_in true d o f = refl
-factor_in false d o f = ring256.mul_assoc d o f ∙ ap (mul256 d) (ring256.mul_comm o f)
+-- one identifier more, behind the others
+others-snoc : (x a : ℕ) (ys : List ℕ) → others gf256 x x (ys ++ a ∷ []) ≡ cond (eqb a x) (others gf256 x x ys) (mul256 (others gf256 x x ys) (bit_xor x a))
+others-snoc x a [] = ap (cond (eqb a x) 1) (ring256.mul_comm (bit_xor x a) 1)
+others-snoc x a (y ∷ ys) =
+    let o = others gf256 x x ys in
+    ap (λ o. cond (eqb y x) o (mul256 (bit_xor x y) o)) (others-snoc x a ys) ∙ past (eqb y x) (eqb a x) (bit_xor x y) o (bit_xor x a)
+  where
+    past : (b c : Bool) (g o f : ℕ) → cond b (cond c o (mul256 o f)) (mul256 g (cond c o (mul256 o f))) ≡ cond c (cond b o (mul256 g o)) (mul256 (cond b o (mul256 g o)) f)
+    past true c g o f = refl
+    past false true g o f = refl
+    past false false g o f = sym (ring256.mul_assoc g o f)
 
-pub denominators_next : (xs ds₀ ds ds₁ : List ℕ) (j : ℕ) → 0 < j → j ≤ length xs
-    → ds ≡ zip_with (λ d x. mul256 d (others gf256 x x (drop j xs))) ds₀ xs
-    → ds₁ ≡ zip_with (λ d x. cond (eqb (get_or xs (j - 1) 0) x) d (mul256 d (bit_xor x (get_or xs (j - 1) 0)))) ds xs
-    → ds₁ ≡ zip_with (λ d x. mul256 d (others gf256 x x (drop (j - 1) xs))) ds₀ xs
-denominators_next xs ds₀ ds ds₁ j h l e e₁ =
-    let a = get_or xs (j - 1) 0 in
-    let s : suc (j - 1) ≡ j = omega arith in
-    let t : a ∷ drop j xs ≡ drop (j - 1) xs = ap (λ n. a ∷ drop n xs) (sym s) ∙ sym (drop-cons xs (j - 1) 0 (omega arith)) in
+factor_in : (b : Bool) (d o f : ℕ) → cond b (mul256 d o) (mul256 (mul256 d o) f) ≡ mul256 d (cond b o (mul256 o f))
+factor_in true d o f = refl
+factor_in false d o f = ring256.mul_assoc d o f
+
+pub denominators_next : (xs ds₀ ds ds₁ : List ℕ) (i : ℕ) → i < length xs
+    → ds ≡ zip_with (λ d x. mul256 d (others gf256 x x (take i xs))) ds₀ xs
+    → ds₁ ≡ zip_with (λ d x. cond (eqb (get_or xs i 0) x) d (mul256 d (bit_xor x (get_or xs i 0)))) ds xs
+    → ds₁ ≡ zip_with (λ d x. mul256 d (others gf256 x x (take (i + 1) xs))) ds₀ xs
+denominators_next xs ds₀ ds ds₁ i h e e₁ =
+    let a = get_or xs i 0 in
+    let t : take i xs ++ a ∷ [] ≡ take (i + 1) xs = sym (ap (λ n. take n xs) (add-one i) ∙ take-suc xs i 0 h) in
     e₁
     ∙ ap (λ d. zip_with (λ d x. cond (eqb a x) d (mul256 d (bit_xor x a))) d xs) e
-    ∙ zip-zip _ _ (λ d x. mul256 d (others gf256 x x (drop (j - 1) xs))) ds₀ xs
-    (λ d x. factor_in (eqb a x) d (others gf256 x x (drop j xs)) (bit_xor x a) ∙ ap (λ ys. mul256 d (others gf256 x x ys)) t)
+    ∙ zip-zip _ _ (λ d x. mul256 d (others gf256 x x (take (i + 1) xs))) ds₀ xs
+    (λ d x. factor_in (eqb a x) d (others gf256 x x (take i xs)) (bit_xor x a)
+    ∙ ap (mul256 d) (sym (others-snoc x a (take i xs)) ∙ ap (others gf256 x x) t))
 
 -- ---- over any field
 

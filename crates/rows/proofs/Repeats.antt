@@ -59,15 +59,15 @@ module _ (ids : List ℕ) (j : ℕ) (h : j < length ids) (p : first_repeating id
             ∙ ap (λ t. suc (repeating_behind t (drop (j + 1) ids))) table,
       )
 
-  module _ {seen : List ℕ} (y : ℕ) (is : y ≡ x) (byte : y < 256) (s : Seen seen (take j ids)) where
-    pub met_again : (get_or seen y 0 ≡ 0 → ⊥) → j ≡ first_repeating ids
-    met_again n =
-        let known : Fresh x (take j ids) → ⊥ = λ f. n (s.marked y byte (subst (λ z. Fresh z (take j ids)) (sym is) f)) in
+  module _ {seen : List Bool} (y : ℕ) (is : y ≡ x) (byte : y < 256) (s : Seen seen (take j ids)) where
+    pub met_again : get_or seen y false ≡ true → j ≡ first_repeating ids
+    met_again m =
+        let known : Fresh x (take j ids) → ⊥ = λ f. let two : true ≡ false = sym m ∙ s.marked y byte (subst (λ z. Fresh z (take j ids)) (sym is) f) in cc in
         omega (arith, p, ap (repeating_behind (take j ids)) here ∙ on_the_table (take j ids) x (drop (j + 1) ids) known)
 
-    pub met_first : get_or seen y 0 ≡ 0 → Seen (set seen y 1) (take (j + 1) ids) × (first_repeating ids ≡ j + 1 + repeating_behind (take (j + 1) ids) (drop (j + 1) ids))
+    pub met_first : get_or seen y false ≡ false → Seen (set seen y true) (take (j + 1) ids) × (first_repeating ids ≡ j + 1 + repeating_behind (take (j + 1) ids) (drop (j + 1) ids))
     met_first e = (
-      subst (Seen (set seen y 1)) (ap (λ z. take j ids ++ (z ∷ [])) is ∙ table) (seen_more s y byte),
+      subst (Seen (set seen y true)) (ap (λ z. take j ids ++ (z ∷ [])) is ∙ table) (seen_more s y byte),
       goes_on (subst (λ z. Fresh z (take j ids)) is (s.unmarked y byte e)),
     )
 

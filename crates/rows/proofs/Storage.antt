@@ -11,7 +11,9 @@ use lib.Seq.{get_or-take, get_or-drop}
 use borrow.Author.Tests.{eq-eqb, eqb-true}
 use Rattle.shamir.specs.Lists.{Below}
 use Rattle.shamir.specs.Rows.{column}
-use Rattle.strides.proofs.Strides.{strided_at}
+use Rattle.strides.proofs.Strides.{length-strided, strided_at}
+use Rattle.rows.specs.declared.Rows.{Rows}
+use Rattle.rows.specs.Identifiers.{row_ids}
 use Rattle.rows.specs.Search.{sum, all_are}
 use Rattle.strides.specs.Strides.{strided}
 use Rattle.rows.specs.Storage.{cut, values}
@@ -22,6 +24,10 @@ next_row i w at e = omega arith
 
 pub strided-first : (w m : ℕ) (s : List ℕ) (i at : ℕ) → i < m → at ≡ i * w → get_or s at 0 ≡ get_or (strided w 0 m s) i 0
 strided-first w m s i at h e = strided_at w 0 m s i at h (omega arith)
+
+-- as many identifiers as there are rows
+pub as_many : (r : Rows) → length (row_ids r) ≡ r.count
+as_many r = length-strided r.width 0 r.count r.bytes.now
 
 -- the first elements of rows of one element are all of them
 pub strided-one : (xs : List ℕ) → strided 1 0 (length xs) xs ≡ xs

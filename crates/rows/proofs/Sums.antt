@@ -1,6 +1,6 @@
 -- The rows, each times its coefficient, summed in turn from 0, are the values at 0 of the polynomials through their points.
 -- Assumes nothing.
-use mathlib.Core.Path.{◌≡◌, refl, sym, ap, ap₂, ◌∙◌}
+use mathlib.Core.Path.{◌≡◌, refl, sym, ap, ap₂, ◌∙◌, subst}
 use mathlib.Core.List.{List, [], ◌∷◌, map, zip_with}
 use mathlib.Core.Logic.{⊎_elim}
 use Prim.Native.Nat.{ℕ, zero, suc, ◌+◌, ◌*◌, ◌-◌, ◌<◌, ◌≤◌}
@@ -9,7 +9,7 @@ use native.Mathlib.Numerals.{add-one}
 use native.Mathlib.Omega.{arith}
 use lib.Bits.{bit_xor, xor_zero_l, xor_zero_r}
 use lib.Dec.{lit<}
-use lib.ListN.{length, get_or, take, drop, replicate, length-take, length-drop, length-append, length-replicate, get_or-replicate, drop_of_length-le, length-map, get_or-append}
+use lib.ListN.{length, get_or, take, drop, replicate, length-drop, length-append, length-replicate, get_or-replicate, drop_of_length-le, length-map, get_or-append}
 use lib.Seq.{ext_get_or, drop-cons, drop-drop, get_or-drop, get_or_at}
 use Rattle.gf256.specs.Field256.{mul256, gf256}
 use Rattle.gf256.proofs.Field256.{ring256, laws256}
@@ -22,7 +22,7 @@ use Rattle.strides.specs.Strides.{strided}
 use Rattle.rows.specs.Storage.{cut, values}
 use Rattle.rows.specs.Combining.{Ready, plus_times, plus_rows}
 use Rattle.strides.proofs.Strides.{length-strided}
-use Rattle.rows.proofs.Storage.{strided-lt, values-strided}
+use Rattle.rows.proofs.Storage.{next_row, strided-lt, values-strided}
 use Rattle.strides.proofs.InPlace.{length-zip-le, get_or-zip}
 use Rattle.rows.proofs.Ready.{ready_distinct}
 
@@ -35,18 +35,15 @@ zip-take f (x ∷ xs) ys zero h = absurd (omega arith)
 zip-take f (x ∷ xs) [] (suc n) h = refl
 zip-take f (x ∷ xs) (y ∷ ys) (suc n) h = ap (f x y ∷◌) (zip-take f xs ys n (omega arith))
 
--- the row at a place, of w elements, has as many values as are summed
-pub values_length : (at l : ℕ) (rows : List ℕ) → at + (l + 1) ≤ length rows → length (take (at + (l + 1) - (at + 1)) (drop (at + 1) rows)) ≡ l
-values_length at l rows h = simp (length-take, length-drop) (omega arith)
-
-pub row_next : (cs rows out₀ out out₁ : List ℕ) (w i at : ℕ) → i < length cs → w ≡ length out + 1
-    → plus_rows w (drop i cs) (drop at rows) out ≡ plus_rows w cs rows out₀
-    → out₁ ≡ plus_times (get_or cs i 0) out (take (at + w - (at + 1)) (drop (at + 1) rows))
-    → plus_rows w (drop (i + 1) cs) (drop (at + w) rows) out₁ ≡ plus_rows w cs rows out₀
-row_next cs rows out₀ out out₁ w i at h e p e₁ =
-    ap₂ (λ n o. plus_rows w (drop n cs) (drop (at + w) rows) o) (add-one i)
-    (e₁ ∙ zip-take _ out (drop (at + 1) rows) (at + w - (at + 1)) (omega arith) ∙ ap (plus_times (get_or cs i 0) out) (sym (drop-drop 1 at rows)))
-    ∙ ap (λ s. plus_rows w (drop (suc i) cs) s (plus_times (get_or cs i 0) out (drop 1 (drop at rows)))) (sym (drop-drop w at rows))
+pub row_next : (cs rows out₀ out out₁ : List ℕ) (w i : ℕ) → i < length cs → w ≡ length out + 1
+    → plus_rows w (drop i cs) (drop (i * w) rows) out ≡ plus_rows w cs rows out₀
+    → out₁ ≡ plus_times (get_or cs i 0) out (take (w - 1) (drop (i * w + 1) rows))
+    → plus_rows w (drop (i + 1) cs) (drop ((i + 1) * w) rows) out₁ ≡ plus_rows w cs rows out₀
+row_next cs rows out₀ out out₁ w i h e p e₁ =
+    let at = i * w in
+    ap₂ (λ n o. plus_rows w (drop n cs) (drop ((i + 1) * w) rows) o) (add-one i)
+    (e₁ ∙ zip-take _ out (drop (at + 1) rows) (w - 1) (omega arith) ∙ ap (plus_times (get_or cs i 0) out) (sym (drop-drop 1 at rows)))
+    ∙ ap (λ s. plus_rows w (drop (suc i) cs) s (plus_times (get_or cs i 0) out (drop 1 (drop at rows)))) (ap (λ n. drop n rows) (sym (next_row i w at refl)) ∙ sym (drop-drop w at rows))
     ∙ ap (λ l. plus_rows w l (drop at rows) out) (sym (drop-cons cs i 0 h))
     ∙ p
 
@@ -120,18 +117,14 @@ secret_is s l m b h d =
     ∙ sym (combined_at xs rows l k k_lt))
 
 -- as the calls one after another leave it
-pub combined_is : (s ids cs out out₁ : List ℕ) (l m : ℕ) → ((i : ℕ) → get_or s i 0 < 256) → Ready (l + 1) m s
-    → ids ≡ strided (l + 1) 0 m s → cs ≡ map (weight gf256 0 ids) ids → out ≡ replicate l 0 → out₁ ≡ plus_rows (length out + 1) cs s out
-    → out₁ ≡ combined gf256 0 (strided (l + 1) 0 m s) (values (cut (replicate m (l + 1)) s)) l
-combined_is s ids cs out out₁ l m b r ei ec eo e =
+pub combined_is : (s ids cs out out₁ : List ℕ) (w l m : ℕ) → ((i : ℕ) → get_or s i 0 < 256) → w ≡ l + 1 → Ready w m s
+    → ids ≡ strided w 0 m s → cs ≡ map (weight gf256 0 ids) ids → out ≡ replicate l 0 → out₁ ≡ plus_rows w cs s out
+    → out₁ ≡ combined gf256 0 (strided w 0 m s) (values (cut (replicate m w) s)) l
+combined_is s ids cs out out₁ w l m b ew r ei ec eo e =
     e
-    ∙ ap (λ o. plus_rows (length o + 1) cs s o) eo
-    ∙ ap₂ (λ n t. plus_rows (n + 1) t s (replicate l 0)) (length-replicate {A = ℕ} l 0) (ec ∙ ap (λ x. map (weight gf256 0 x) x) ei)
-    ∙ secret_is s l m b r.stored (ready_distinct (l + 1) m s r)
-
-pub sums_fit : (s ids cs out : List ℕ) (l m : ℕ) → Ready (l + 1) m s → ids ≡ strided (l + 1) 0 m s → cs ≡ map (weight gf256 0 ids) ids → out ≡ replicate l 0
-    → length cs * (length out + 1) ≤ length s
-sums_fit s ids cs out l m r ei ec eo =
-    let ln : length cs ≡ m = ap length ec ∙ length-map ids (weight gf256 0 ids) ∙ ap length ei ∙ length-strided (l + 1) 0 m s in
-    let lo : length out ≡ l = ap length eo ∙ length-replicate {A = ℕ} l 0 in
-    rw (ln, lo) r.stored
+    ∙ ap₂ (λ o t. plus_rows w t s o) eo (ec ∙ ap (λ x. map (weight gf256 0 x) x) ei)
+    ∙ subst
+    (λ w. Ready w m s → plus_rows w (map (weight gf256 0 (strided w 0 m s)) (strided w 0 m s)) s (replicate l 0) ≡ combined gf256 0 (strided w 0 m s) (values (cut (replicate m w) s)) l)
+    (sym ew)
+    (λ r. secret_is s l m b r.stored (ready_distinct (l + 1) m s r))
+    r

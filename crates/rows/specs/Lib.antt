@@ -3,3 +3,4 @@ pub mod Repeats
 pub mod Storage
 pub mod Lengths
 pub mod Combining
+pub mod Identifiers

@@ -1,7 +1,8 @@
 -- What the row checks look for in lists of lengths and of identifiers. A place counts from 0; where there is none, it is the
 -- length of the list.
 -- Assumes nothing.
-use Rattle.std.specs.Prelude.{Bool, true, cond, ◌&&◌, List, [], ◌∷◌, ◌++◌, ℕ, suc, ◌+◌, eqb, ltb, length, get_or}
+use Rattle.std.specs.Option.{MatchOption}
+use Rattle.std.specs.Prelude.{◌≡◌, ◌<◌, Option, Bool, true, cond, ◌&&◌, List, [], ◌∷◌, ◌++◌, ℕ, suc, ◌+◌, eqb, ltb, length, get_or}
 
 abbrev pub sum : List ℕ → ℕ
 sum [] = 0
@@ -20,6 +21,10 @@ place_of x (a ∷ xs) = cond (eqb a x) 0 (suc (place_of x xs))
 -- refusal 6: the place of the first zero identifier
 abbrev pub first_zero : List ℕ → ℕ
 first_zero ids = place_of 0 ids
+
+-- what a search among n gives: the place at which something stands, or nothing, and then that place is n
+abbrev pub IsFound : Option ℕ → ℕ → ℕ → Type 0
+IsFound found place n = MatchOption found (place ≡ n) (λ i. (i ≡ place) × (i < n))
 
 -- whether a place was found
 abbrev pub within : ℕ → List ℕ → Bool

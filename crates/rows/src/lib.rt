@@ -1,14 +1,14 @@
 // Checks of rows that lie one after another in flat storage, and the secret that they share.
 #![tactic(auto)]
 
-ghost use Rattle.std.specs.Prelude.{◌≡◌, ℕ, List, refl, true, cond, ◌+◌, ◌*◌, ◌/◌, ◌<◌, ◌≤◌, eqb, length, drop, replicate};
+ghost use Rattle.std.specs.Prelude.{◌≡◌, ℕ, List, refl, true, cond, ◌+◌, ◌*◌, ◌/◌, ◌<◌, ◌≤◌, eqb, length, get_or, take, drop, replicate, ◌-◌};
 ghost use mathlib.Core.List.{foldr, map, zip_with};
 ghost use Rattle.std.specs.Int.Bits.{bit_xor};
 ghost use Rattle.gf256.specs.Field256.{mul256, inv256, gf256};
 ghost use Rattle.shamir.specs.Lists.{Distinct, Fresh};
 ghost use Rattle.shamir.specs.Polynomial.{others, weight};
 ghost use Rattle.shamir.specs.Rows.{combined};
-ghost use Rattle.rows.specs.Search.{sum, all_are, place_of, first_repeated, first_repeating};
+ghost use Rattle.rows.specs.Search.{sum, all_are, place_of, IsFound, first_repeated, first_repeating};
 ghost use Rattle.strides.specs.Strides.{strided};
 ghost use Rattle.rows.specs.Storage.{cut, values};
 ghost use Rattle.rows.specs.Lengths.{four_of, lengths_of, unchanged};
@@ -86,63 +86,111 @@ pub fn byte_lengths(bytes: &[u8]) -> &[[u8; 4]]
     bytes.as_chunks().0
 }
 
-// Of m rows of w bytes, the first from a place on whose identifier is x; m where there is none.
-pub fn find(rows: &[u8], w: usize, m: usize, x: u8, from: usize) -> usize
-    requires { (from ≤ m) × (m * w ≤ length rows.now) × (0 < w) }
-    ensures { result ≡ from + place_of x (drop from (strided w 0 m rows.now)) }
-{
-    let mut i = from;
-    let mut at = from * w;
-    while i < m {
-        if rows[at] == x {
-            return i;
-        }
-        i += 1;
-        at += w;
-    }
-    i
+// Rows that lie one after another, so many of one width, each its identifier and then its values.
+#[derive(Clone, Copy)]
+pub struct Rows<'a> {
+    pub bytes: &'a [u8],
+    pub width: usize,
+    pub count: usize,
+    pub ghost some: { 0 < width },
+    pub ghost stored: { count * width ≤ length bytes.now },
 }
 
-// Refusal 7: its second place, the first row whose identifier was met before; m where there is none. One pass, with a mark for each
-// identifier that was met: it ends by row 256 at the latest, since there are no more bytes.
-pub fn first_repeating(rows: &[u8], w: usize, m: usize) -> usize
-    requires { (m * w ≤ length rows.now) × (0 < w) }
-    ensures { result ≡ first_repeating (strided w 0 m rows.now) }
-{
-    let mut seen = [0u8; BYTES];
-    let mut j = 0;
-    let mut at = 0;
-    while j < m {
-        let x = rows[at] as usize;
-        if seen[x] != 0 {
-            return j;
-        }
-        seen[x] = 1;
-        j += 1;
-        at += w;
-    }
-    j
-}
+impl Rows<'_> {
+    ghost use Rattle.rows.specs.Identifiers.{row_ids};
 
-// .. and its first place, once the second is found: where that identifier stands first.
-pub fn first_repeated(rows: &[u8], w: usize, m: usize, j: usize) -> usize
-    requires { (j < m) × (m * w ≤ length rows.now) × (0 < w) × (j ≡ first_repeating (strided w 0 m rows.now)) }
-    ensures { result ≡ first_repeated (strided w 0 m rows.now) }
-{
-    let at = j * w;
-    find(rows, w, m, rows[at], 0)
+    // The identifier of row i.
+    pub fn identifier(&self, i: usize) -> u8
+        requires { i < self.now.count }
+        ensures { result ≡ get_or (row_ids self.now) i 0 }
+    {
+        self.bytes[i * self.width]
+    }
+
+    // The first row from a place on whose identifier is x.
+    pub fn find(&self, x: u8, from: usize) -> Option<usize>
+        requires { from ≤ self.now.count }
+        ensures { IsFound result (from + place_of x (drop from (row_ids self.now))) self.now.count }
+    {
+        for i in from..self.count {
+            if self.identifier(i) == x {
+                return Some(i);
+            }
+        }
+        None
+    }
+
+    // Refusal 7: its second place, the first row whose identifier was met before. One pass, with a mark for each identifier that
+    // was met: it ends by row 256 at the latest, since there are no more bytes.
+    pub fn first_repeating(&self) -> Option<usize>
+        ensures { IsFound result (first_repeating (row_ids self.now)) self.now.count }
+    {
+        let mut seen = [false; BYTES];
+        for j in 0..self.count {
+            let x = usize::from(self.identifier(j));
+            if seen[x] {
+                return Some(j);
+            }
+            seen[x] = true;
+        }
+        None
+    }
+
+    // .. and its first place, once the second is found: where that identifier stands first.
+    pub fn first_repeated(&self, j: usize) -> usize
+        requires { (j < self.now.count) × (j ≡ first_repeating (row_ids self.now)) }
+        ensures { result ≡ first_repeated (row_ids self.now) }
+    {
+        self.find(self.identifier(j), 0).unwrap_or(j)
+    }
+
+    // The values of row i.
+    fn values(&self, i: usize) -> &[u8]
+        requires { i < self.now.count }
+        ensures { result.now ≡ take (self.now.width - 1) (drop (i * self.now.width + 1) self.now.bytes.now) }
+    {
+        let at = i * self.width;
+        &self.bytes[at + 1..at + self.width]
+    }
+
+    // The values of the rows in turn, each row's times its coefficient, to what is summed so far.
+    fn add_rows(&self, out: &mut [u8], coefficients: &[u8])
+        requires { (length coefficients.now ≡ self.now.count) × (self.now.width ≡ length out.old + 1) }
+        ensures { out.new ≡ plus_rows self.now.width coefficients.now self.now.bytes.now out.old }
+    {
+        for (i, c) in coefficients.iter().enumerate() {
+            add_scaled(out, self.values(i), *c);
+        }
+    }
+
+    // The bytes that hold them. Handed out by a call they are known to be bytes, so that combine_rows is sure of its arrays.
+    fn storage(&self) -> &[u8]
+        ensures { result.now ≡ self.now.bytes.now }
+    {
+        self.bytes
+    }
+
+    // The secret of rows that are each one byte longer than it. Rows with distinct identifiers, none of them 0, are at most 255.
+    pub fn combine_rows(&self, out: &mut [u8])
+        requires { (self.now.width ≡ length out.old + 1) × Ready self.now.width self.now.count self.now.bytes.now }
+        ensures { out.new ≡ combined gf256 0 (row_ids self.now) (values (cut (replicate self.now.count self.now.width) self.now.bytes.now)) (length out.old) }
+    {
+        let bytes = self.storage();
+        let mut ids = [0u8; IDENTIFIERS];
+        let mut coefficients = [0u8; IDENTIFIERS];
+        let ids = &mut ids[..self.count];
+        let coefficients = &mut coefficients[..self.count];
+        strides::gather(bytes, self.width, 0, ids);
+        lagrange_coefficients(coefficients, ids);
+        out.fill(0);
+        self.add_rows(out, coefficients);
+    }
 }
 
 fn product(xs: &[u8]) -> u8
     ensures { result ≡ foldr mul256 1 xs.now }
 {
-    let mut p = 1u8;
-    let mut i = xs.len();
-    while 0 < i {
-        i -= 1;
-        p = gf256::gf256_mul(xs[i], p);
-    }
-    p
+    xs.iter().fold(1, |p, x| gf256::gf256_mul(*x, p))
 }
 
 // Each d times the difference of its x and a, where they differ. Choosing the factor, and not whether to multiply, lets the
@@ -151,12 +199,10 @@ fn times_differences(ds: &mut [u8], xs: &[u8], a: u8)
     requires { length ds.old ≡ length xs.now }
     ensures { ds.new ≡ zip_with (λ d x. cond (eqb a x) d (mul256 d (bit_xor x a))) ds.old xs.now }
 {
-    let mut k = 0;
-    while k < ds.len() {
+    for (k, d) in ds.iter_mut().enumerate() {
         let x = xs[k];
         let f = if a == x { 1 } else { x ^ a };
-        ds[k] = gf256::gf256_mul(ds[k], f);
-        k += 1;
+        *d = gf256::gf256_mul(*d, f);
     }
 }
 
@@ -165,10 +211,8 @@ fn denominators(ds: &mut [u8], xs: &[u8])
     requires { length ds.old ≡ length xs.now }
     ensures { ds.new ≡ zip_with (λ d x. mul256 d (others gf256 x x xs.now)) ds.old xs.now }
 {
-    let mut j = xs.len();
-    while 0 < j {
-        j -= 1;
-        times_differences(ds, xs, xs[j]);
+    for a in xs {
+        times_differences(ds, xs, *a);
     }
 }
 
@@ -176,10 +220,8 @@ fn denominators(ds: &mut [u8], xs: &[u8])
 fn divide_into(ds: &mut [u8], p: u8)
     ensures { ds.new ≡ map (λ d. mul256 (inv256 d) p) ds.old }
 {
-    let mut k = 0;
-    while k < ds.len() {
-        ds[k] = gf256::gf256_mul(gf256::gf256_inverse(ds[k]), p);
-        k += 1;
+    for d in ds.iter_mut() {
+        *d = gf256::gf256_mul(gf256::gf256_inverse(*d), p);
     }
 }
 
@@ -188,7 +230,7 @@ pub fn lagrange_coefficients(coefficients: &mut [u8], ids: &[u8])
     requires { (length coefficients.old ≡ length ids.now) × Distinct ids.now × Fresh 0 ids.now }
     ensures { coefficients.new ≡ map (weight gf256 0 ids.now) ids.now }
 {
-    strides::gather(ids, 1, 0, coefficients);
+    coefficients.copy_from_slice(ids);
     denominators(coefficients, ids);
     let p = product(ids);
     divide_into(coefficients, p);
@@ -199,58 +241,7 @@ fn add_scaled(out: &mut [u8], row: &[u8], c: u8)
     requires { length out.old ≡ length row.now }
     ensures { out.new ≡ plus_times c out.old row.now }
 {
-    let mut k = 0;
-    while k < out.len() {
-        out[k] ^= gf256::gf256_mul(row[k], c);
-        k += 1;
+    for (k, o) in out.iter_mut().enumerate() {
+        *o ^= gf256::gf256_mul(row[k], c);
     }
-}
-
-fn clear(out: &mut [u8])
-    ensures { out.new ≡ replicate (length out.old) 0 }
-{
-    let mut k = 0;
-    while k < out.len() {
-        out[k] = 0;
-        k += 1;
-    }
-}
-
-// The rows in turn, each the part after its identifier.
-fn add_rows(out: &mut [u8], rows: &[u8], coefficients: &[u8])
-    requires { length coefficients.now * (length out.old + 1) ≤ length rows.now }
-    ensures { out.new ≡ plus_rows (length out.old + 1) coefficients.now rows.now out.old }
-{
-    let w = out.len() + 1;
-    let mut i = 0;
-    let mut at = 0;
-    while i < coefficients.len() {
-        let v = at + 1;
-        let e = at + w;
-        add_scaled(out, &rows[v..e], coefficients[i]);
-        i += 1;
-        at = e;
-    }
-}
-
-// combine_rows, with room lent for the identifiers and the coefficients.
-fn combine_with(out: &mut [u8], rows: &[u8], ids: &mut [u8], coefficients: &mut [u8])
-    requires { (length coefficients.old ≡ length ids.old) × Ready (length out.old + 1) (length ids.old) rows.now }
-    ensures { out.new ≡ combined gf256 0 (strided (length out.old + 1) 0 (length ids.old) rows.now) (values (cut (replicate (length ids.old) (length out.old + 1)) rows.now)) (length out.old) }
-{
-    let w = out.len() + 1;
-    strides::gather(rows, w, 0, ids);
-    lagrange_coefficients(coefficients, ids);
-    clear(out);
-    add_rows(out, rows, coefficients);
-}
-
-// The secret of m rows, each one byte longer than it. Rows with distinct identifiers, none of them 0, are at most 255.
-pub fn combine_rows(out: &mut [u8], rows: &[u8], m: usize)
-    requires { Ready (length out.old + 1) m rows.now }
-    ensures { out.new ≡ combined gf256 0 (strided (length out.old + 1) 0 m rows.now) (values (cut (replicate m (length out.old + 1)) rows.now)) (length out.old) }
-{
-    let mut ids = [0u8; IDENTIFIERS];
-    let mut coefficients = [0u8; IDENTIFIERS];
-    combine_with(out, rows, &mut ids[..m], &mut coefficients[..m]);
 }

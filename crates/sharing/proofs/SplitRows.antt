@@ -2,8 +2,8 @@
 -- Assumes nothing.
 use mathlib.Core.Path.{◌≡◌, ◌∙◌, sym, ap, ap₂, refl}
 use mathlib.Core.List.{List, [], ◌∷◌, ◌++◌, append_assoc, append-nil}
-use Prim.Native.Nat.{ℕ, ◌+◌, ◌-◌, ◌<◌, ◌≤◌}
-use native.Mathlib.Nat.{zero-mul, suc-mul, mul-le-mul_right}
+use Prim.Native.Nat.{ℕ, ◌+◌, ◌-◌, ◌<◌}
+use native.Mathlib.Nat.{zero-mul, suc-mul, add-mul, one-mul}
 use native.Mathlib.Numerals.{add-one}
 use native.Mathlib.Omega.{arith}
 use lib.ListN.{length, take, drop, get_or, set, length-append}
@@ -30,13 +30,13 @@ module _ (k : ℕ) (ss cs : List ℕ) where
   -- a turn: behind the rows before it the identifier at place j is written, and behind that its values, new, come back
   pub row_fills : (j at : ℕ) (ids out₀ out new : List ℕ) → j < length ids → at ≡ split_room j (length ss) → at < length out₀
       → out ≡ rows_of k ss cs (take j ids) ++ drop at out₀ → new ≡ row gf256 k (get_or ids j 0) ss cs
-      → put_mid (at + 1) (at + 1 + length ss - (at + 1)) (set out at (get_or ids j 0)) new ≡ rows_of k ss cs (take (j + 1) ids) ++ drop (at + 1 + length ss) out₀
+      → put_mid (at + 1) (at + (length ss + 1) - (at + 1)) (set out at (get_or ids j 0)) new ≡ rows_of k ss cs (take (j + 1) ids) ++ drop (split_room (j + 1) (length ss)) out₀
   row_fills j at ids out₀ out new h ea inside eo en =
       let x = get_or ids j 0 in
       let p = rows_of k ss cs (take j ids) in
-      let w = at + 1 + length ss - (at + 1) in
+      let w = at + (length ss + 1) - (at + 1) in
       let long : length p ≡ at = length-rows (take j ids) ∙ ap (λ n. split_room n (length ss)) (length-take-le j ids (omega arith)) ∙ sym ea in
-      let end : at + 1 + w ≡ at + 1 + length ss = omega arith in
+      let end : at + 1 + w ≡ split_room (j + 1) (length ss) = omega (arith, add-mul j 1 (length ss + 1), one-mul (length ss + 1)) in
       let grown : (p ++ x ∷ []) ++ new ≡ rows_of k ss cs (take (j + 1) ids) =
       append_snoc p x new ∙ ap (p ++◌) (ap (x ∷◌) en ∙ sym (append-nil (x ∷ row gf256 k x ss cs))) ∙ sym (rows_append (take j ids) (x ∷ []))
       ∙ ap (rows_of k ss cs) (sym (take-suc ids j 0 h) ∙ ap (λ n. take n ids) (sym (add-one j))) in
@@ -44,7 +44,3 @@ module _ (k : ℕ) (ss cs : List ℕ) where
       ∙ ap (λ l. put_mid (at + 1) w l new) (fill_one p out₀ at long x inside)
       ∙ fill_part (p ++ x ∷ []) out₀ (at + 1) (length-append p (x ∷ []) ∙ ap (◌+ 1) long) w new
       ∙ ap₂ (λ l n. l ++ drop n out₀) grown end
-
--- row j of n ends within the room for n
-pub row_ends : (j n l m : ℕ) → j < n → split_room n l ≤ m → split_room j l + 1 + l ≤ m
-row_ends j n l m h r = omega (arith, mul-le-mul_right (l + 1) h, suc-mul j (l + 1))

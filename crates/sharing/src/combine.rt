@@ -1,5 +1,5 @@
 // Rows are combined into the secret: once they are judged, the room for it, and then the values at 0.
-ghost use Rattle.std.specs.Prelude.{◌+◌};
+ghost use Rattle.std.specs.Prelude.{◌-◌};
 ghost use Rattle.answer.specs.Answers.{answer_of};
 ghost use Rattle.rows.specs.Combining.{Ready};
 ghost use Rattle.sharing.specs.Combine.{Combines, CombinesAccepted};
@@ -7,17 +7,18 @@ ghost use Rattle.sharing.specs.ByteLengths.{CombinesByByteLengths};
 
 use answer::Reason;
 use row_set::{judge_rows, readable_lengths};
-use rows::Length;
+use rows::{Length, Rows};
 
-// Of m accepted rows with l values each.
-fn combine_accepted(rows: &[u8], m: usize, l: usize, out: &mut [u8]) -> Result<usize, Reason>
-    requires { Ready (l + 1) m rows.now }
-    ensures { CombinesAccepted l m rows.now out.old (answer_of result) out.new }
+// Of accepted rows.
+fn combine_accepted(rows: &Rows, out: &mut [u8]) -> Result<usize, Reason>
+    requires { Ready rows.now.width rows.now.count rows.now.bytes.now }
+    ensures { CombinesAccepted (rows.now.width - 1) rows.now.count rows.now.bytes.now out.old (answer_of result) out.new }
 {
+    let l = rows.width - 1;
     if out.len() < l {
         return Err(Reason::NoRoom);
     }
-    rows::combine_rows(&mut out[..l], rows, m);
+    rows.combine_rows(&mut out[..l]);
     Ok(l)
 }
 
@@ -26,7 +27,12 @@ pub fn combine_bytes<T: Length>(rows: &[u8], lengths: &[T], out: &mut [u8]) -> R
     ensures { Combines rows.now (T.lengths lengths.now) out.old (answer_of result) out.new }
 {
     let l = judge_rows(rows, lengths, 1)?;
-    combine_accepted(rows, lengths.len(), l, out)
+    let accepted = Rows {
+        bytes: rows,
+        width: l + 1,
+        count: lengths.len(),
+    };
+    combine_accepted(&accepted, out)
 }
 
 // The same for the host, from which the lengths come as bytes, four a row, least first.

@@ -5,6 +5,7 @@ ghost use Rattle.answer.specs.Answers.{answer_of};
 ghost use Rattle.sharing.specs.Split.{split_room, split_outcome, rows_of, Splits};
 
 use answer::Reason;
+use polynomial::Polynomials;
 use row_set::{MAX_SECRET, MAX_SHARES};
 
 // The answer, from lengths and identifiers alone: it takes these and not the slices, nor a struct of all that a split is given, so
@@ -54,23 +55,17 @@ fn split_answer(
     Ok(bytes)
 }
 
-// The rows of the first n identifiers, one after another. What lies behind them is not touched.
-fn write_rows(n: usize, ids: &[u8], secret: &[u8], coefficients: &[u8], k: usize, out: &mut [u8])
-    requires { (n ≤ length ids.now) × (0 < k) × (length secret.now * k ≤ length coefficients.now)
-        × (split_room n (length secret.now) ≤ length out.old) }
-    ensures { out.new ≡ rows_of k secret.now coefficients.now (take n ids.now)
-        ++ drop (split_room n (length secret.now)) out.old }
+// The rows of these identifiers, one after another. What lies behind them is not touched.
+fn write_rows(ids: &[u8], polynomials: &Polynomials, out: &mut [u8])
+    requires { split_room (length ids.now) (length polynomials.now.secret.now) ≤ length out.old }
+    ensures { out.new ≡ rows_of polynomials.now.k polynomials.now.secret.now polynomials.now.coefficients.now ids.now
+        ++ drop (split_room (length ids.now) (length polynomials.now.secret.now)) out.old }
 {
-    let mut j = 0;
-    let mut at = 0;
-    while j < n {
-        let x = ids[j];
-        let values = at + 1;
-        let next = values + secret.len();
-        out[at] = x;
-        polynomial::evaluate_row(x, secret, coefficients, k, &mut out[values..next]);
-        at = next;
-        j += 1;
+    let w = polynomials.secret.len() + 1;
+    for (j, x) in ids.iter().enumerate() {
+        let at = j * w;
+        out[at] = *x;
+        polynomials.evaluate_row(*x, &mut out[at + 1..at + w]);
     }
 }
 
@@ -93,13 +88,11 @@ pub fn split_bytes_with_participant_ids_iter(
         coefficients.len(),
         out.len(),
     )?;
-    write_rows(
-        limit,
-        participant_ids,
+    let polynomials = Polynomials {
         secret,
         coefficients,
-        threshold - 1,
-        out,
-    );
+        k: threshold - 1,
+    };
+    write_rows(&participant_ids[..limit], &polynomials, out);
     Ok(count)
 }

@@ -9,11 +9,7 @@ pub fn gather(from: &[u8], stride: usize, place: usize, out: &mut [u8])
     requires { (place < stride) × (length out.old * stride ≤ length from.now) }
     ensures { out.new ≡ strided stride place (length out.old) from.now }
 {
-    let mut i = 0;
-    let mut at = place;
-    while i < out.len() {
-        out[i] = from[at];
-        at += stride;
-        i += 1;
+    for (i, o) in out.iter_mut().enumerate() {
+        *o = from[i * stride + place];
     }
 }

@@ -1,9 +1,9 @@
 -- `horner_step` meets its contract: after i turns the first i values have made the step.
-use Prim.Native.Nat.{ℕ, ◌≤◌, ◌-◌}
+use Prim.Native.Nat.{ℕ}
 use mathlib.Core.Path.{◌≡◌}
 use mathlib.Core.List.{List, ◌++◌}
 use lib.Bits.{bit_xor}
-use lib.ListN.{length, drop, get_or}
+use lib.ListN.{drop, get_or}
 use Rattle.gf256.specs.Field256.{mul256}
 use Rattle.polynomial.specs.Steps.{each}
 use Rattle.polynomial.proofs.horner_step.Given as goal
@@ -13,7 +13,4 @@ abbrev pub stepped : ℕ → List ℕ → List ℕ → ℕ → ℕ
 stepped x vs column i = bit_xor (mul256 (get_or vs i 0) x) (get_or column i 0)
 
 abbrev pub invariant-loop-i : goal.invariant-loop-i
-invariant-loop-i l = (l.i ≤ length l.initial.vs) × (length l.vs ≡ length l.initial.vs) × (l.vs ≡ each l.i (stepped l.x l.initial.vs l.column) ++ drop l.i l.initial.vs)
-
-abbrev pub decreases-loop-i : goal.decreases-loop-i
-decreases-loop-i l = length l.initial.vs - l.i
+invariant-loop-i l = l.vs ≡ each l.i (stepped l.x l.initial.vs l.column) ++ drop l.i l.initial.vs

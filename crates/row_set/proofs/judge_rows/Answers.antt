@@ -6,13 +6,16 @@ use Rattle.rows.proofs.Lengths.{as_long, said}
 use Rattle.row_set.proofs.RowSet.{fills, of_equal}
 use Rattle.row_set.proofs.judge_rows.Goals as goal
 
-pub judge_equal_rows-requires : goal.judge_equal_rows-requires
-judge_equal_rows-requires g c =
+pub invariant_of-judge_equal_rows : goal.invariant_of-judge_equal_rows
+invariant_of-judge_equal_rows g c =
     let a = c.args in
     let t = g.T.Length in
     let ns = t.lengths a.lengths.now in
     let count = as_long t.value a.lengths.now ns (g.met.T.Length.each a.lengths.now) in
-    (fills ns c.value-w.result _ (sym c.all_are.ensures ∙ c.if-not-all_are.false) count _ (sym c.sums_to.ensures ∙ c.if-not-sums_to.false), omega arith)
+    record {
+      some = omega arith;
+      stored = omega (arith, fills ns c.value-w.result _ (sym c.all_are.ensures ∙ c.if-not-all_are.false) count _ (sym c.sums_to.ensures ∙ c.if-not-sums_to.false));
+    }
 
 pub returns : goal.returns
 returns g c =

@@ -2,26 +2,17 @@
 use mathlib.Core.Path.{refl, ap}
 use native.Mathlib.Omega.{arith}
 use lib.Bits.{bit_xor}
-use lib.ListN.{get_or, length-set}
+use lib.ListN.{get_or}
 use Rattle.strides.proofs.InPlace.{none, next, all-zip}
 use Rattle.rows.proofs.add_scaled.Goals as goal
 
 pub loop-k-init : goal.loop-k-init
 loop-k-init c = none
 
-pub gf256_mul-requires : goal.gf256_mul-requires
-gf256_mul-requires c = tt
-
-pub loop-k-smaller : goal.loop-k-smaller
-loop-k-smaller c = simp length-set (omega arith)
-
 pub loop-k-preserved : goal.loop-k-preserved
 loop-k-preserved c =
     let l = c.loop-k in
     next l.k _ l.invariant (omega arith) (ap (bit_xor (get_or l.out l.k 0)) c.gf256_mul.ensures)
-
-pub shape_of-out : goal.shape_of-out
-shape_of-out c = c.loop-k.invariant.long
 
 pub returns : goal.returns
 returns c =

@@ -1,13 +1,9 @@
 -- `add_scaled` meets its contract: the places before k have their product added, the others hold what they held.
-use Prim.Native.Nat.{◌-◌}
 use lib.Bits.{bit_xor}
-use lib.ListN.{length, get_or}
+use lib.ListN.{get_or}
 use Rattle.gf256.specs.Field256.{mul256}
 use Rattle.strides.proofs.InPlace.{InPlace}
 use Rattle.rows.proofs.add_scaled.Given as goal
 
 abbrev pub invariant-loop-k : goal.invariant-loop-k
 invariant-loop-k l = InPlace (λ k o. bit_xor o (mul256 (get_or l.row k 0) l.c)) l.initial.out l.k l.out
-
-abbrev pub decreases-loop-k : goal.decreases-loop-k
-decreases-loop-k l = length l.out - l.k

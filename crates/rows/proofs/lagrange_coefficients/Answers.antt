@@ -1,10 +1,9 @@
 -- `lagrange_coefficients` meets its contract: what its loops compute is Lagrange's coefficient of each identifier.
-use mathlib.Core.Path.{ap, ◌∙◌, subst}
+use mathlib.Core.Path.{subst}
 use mathlib.Core.List.{List}
 use Prim.Native.Nat.{ℕ, ◌<◌}
 use lib.ListN.{length, get_or}
 use Rattle.shamir.specs.Lists.{Below}
-use Rattle.strides.specs.Strides.{strided}
 use Rattle.rows.proofs.Storage.{strided-one, strided-lt}
 use Rattle.rows.proofs.Coefficients.{coefficients_are}
 use Rattle.rows.proofs.lagrange_coefficients.Goals as goal
@@ -15,6 +14,5 @@ below_of n xs h = subst (Below n) (strided-one xs) (strided-lt n 1 0 (length xs)
 pub returns : goal.returns
 returns c =
     let ids = c.args.ids.now in
-    let e = c.gather.ensures ∙ ap (λ n. strided 1 0 n ids) c.requires.0 ∙ strided-one ids in
-    coefficients_are ids _ _ _ _ (below_of 256 ids (λ i. (c.type_inv.ids i).fits)) c.requires.1 c.requires.2 e
+    coefficients_are ids _ _ _ _ (below_of 256 ids (λ i. (c.type_inv.ids i).fits)) c.requires.1 c.requires.2 c.copy_from_slice.ensures.after
     c.denominators.ensures c.product-p.ensures c.divide_into.ensures

@@ -5,7 +5,7 @@ use Prim.Native.Nat.{ℕ, ◌<◌}
 use native.Mathlib.Omega.{arith}
 use lib.Bits.{bit_xor}
 use lib.Dec.{eqb}
-use lib.ListN.{get_or, length-set}
+use lib.ListN.{get_or}
 use borrow.Author.Tests.{eq-eqb, ne_eqb}
 use Rattle.gf256.specs.Field256.{mul256}
 use Rattle.gf256.proofs.Field256.{ring256}
@@ -23,12 +23,6 @@ miss a x d f r e q p = p ∙ ap (mul256 d) q ∙ sym (ap (λ b. cond b d (mul256
 pub loop-k-init : goal.loop-k-init
 loop-k-init c = none
 
-pub gf256_mul-requires : goal.gf256_mul-requires
-gf256_mul-requires c = tt
-
-pub loop-k-smaller : goal.loop-k-smaller
-loop-k-smaller c = simp length-set (omega arith)
-
 pub loop-k-preserved : goal.loop-k-preserved
 loop-k-preserved c =
     let l = c.loop-k in
@@ -40,9 +34,6 @@ loop-k-preserved c =
     let h : d < 256 = omega arith in
     next l.k _ l.invariant (omega arith)
     (elim c.if-a-x.branch [ then-a-x w ↦ hit a.a x d f _ h w.if-a-x.true w.f-is p | else-a-x w ↦ miss a.a x d f _ w.if-a-x.false w.f-is p ])
-
-pub shape_of-ds : goal.shape_of-ds
-shape_of-ds c = c.loop-k.invariant.long
 
 pub returns : goal.returns
 returns c =

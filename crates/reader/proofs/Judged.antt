@@ -1,7 +1,7 @@
 -- The rows that were read so far, and what the next line makes of them.
 -- Assumes nothing.
 use mathlib.Core.Path.{◌≡◌, refl, sym, ap, ap₂, ◌∙◌, subst}
-use mathlib.Core.Bool.{true, false}
+use mathlib.Core.Bool.{Bool, true, false}
 use mathlib.Core.List.{List, [], ◌∷◌, ◌++◌, append_assoc, append-nil}
 use mathlib.Core.Logic.{⊎_elim}
 use Prim.Native.Nat.{ℕ, suc, ◌+◌, ◌-◌, ◌<◌, ◌≤◌}
@@ -25,7 +25,7 @@ use Rattle.reader.specs.Taking.{RowRead, NoRow, SomeRows}
 use Rattle.rows.proofs.Marks.{Seen, seen_none, seen_more}
 
 -- the lines before line, up to rest, are those of right rows, and the text is read on from there
-pub record ReadTo (text : List ℕ) (m l : ℕ) (seen : List ℕ) (line : ℕ) (rest : List ℕ) : Type 0 where
+pub record ReadTo (text : List ℕ) (m l : ℕ) (seen : List Bool) (line : ℕ) (rest : List ℕ) : Type 0 where
   pub rows : List (List ℕ)
   pub are_rows : Rows l rows
   pub few : length rows ≤ m
@@ -38,7 +38,7 @@ pub record ReadTo (text : List ℕ) (m l : ℕ) (seen : List ℕ) (line : ℕ) (
 abbrev pub WrongAt : List ℕ → ℕ → ℕ → ℕ → Type 0
 WrongAt text m l k = (t : ℕ) → unrows t l m 1 [] text ≡ not_at k
 
-pub nothing_read : (text : List ℕ) (m l : ℕ) → ReadTo text m l (replicate 256 0) 1 text
+pub nothing_read : (text : List ℕ) (m l : ℕ) → ReadTo text m l (replicate 256 false) 1 text
 nothing_read text m l = record {
   rows = [];
   are_rows = no_rows l;
@@ -49,7 +49,7 @@ nothing_read text m l = record {
   met = seen_none;
 }
 
-module _ {text : List ℕ} {m l : ℕ} {seen : List ℕ} {line : ℕ} {rest : List ℕ} (p : ReadTo text m l seen line rest) where
+module _ {text : List ℕ} {m l : ℕ} {seen : List Bool} {line : ℕ} {rest : List ℕ} (p : ReadTo text m l seen line rest) where
   -- a line behind them at which no new row stands is the first wrong one, ..
   stops : line ≤ m → (RowBegins l p.rows rest → ⊥) → WrongAt text m l line
   stops more none t =
@@ -72,13 +72,14 @@ module _ {text : List ℕ} {m l : ℕ} {seen : List ℕ} {line : ℕ} {rest : Li
     writable x g = record { some = omega (arith, g.long); bytes = g.bytes }
 
     -- .. so is one whose identifier is marked, ..
-    pub repeats : line ≤ m → (get_or seen id 0 ≡ 0 → ⊥) → WrongAt text m l line
+    pub repeats : line ≤ m → get_or seen id false ≡ true → WrongAt text m l line
     repeats more taken = stops more (λ b.
         let same = (row_told row b.row _ b.later (writable row r.is_row) (writable b.row b.good) (sym r.stands ∙ b.parts)).0 in
-        taken (p.met.marked id id_byte (subst (λ x. Fresh x (identifiers p.rows)) (ap (λ x. get_or x 0 0) (sym same) ∙ r.identifier) b.fresh)))
+        let two : true ≡ false = sym taken ∙ p.met.marked id id_byte (subst (λ x. Fresh x (identifiers p.rows)) (ap (λ x. get_or x 0 0) (sym same) ∙ r.identifier) b.fresh) in
+        cc)
 
     -- .. and with a new row the text is read on behind it
-    pub row_read : line ≤ m → get_or seen id 0 ≡ 0 → ReadTo text m l (set seen id 1) (line + 1) behind
+    pub row_read : line ≤ m → get_or seen id false ≡ false → ReadTo text m l (set seen id true) (line + 1) behind
     row_read more free =
         let rows = p.rows in
         let rows' = rows ++ (row ∷ []) in
@@ -98,14 +99,14 @@ module _ {text : List ℕ} {m l : ℕ} {seen : List ℕ} {line : ℕ} {rest : Li
               ∙ ap₂ (λ n x. unrows t l n line rows x) left r.stands
               ∙ row-right l rows t (m - length rows') line r.is_row fresh behind
               ∙ ap (λ k. unrows t l (m - length rows') k rows' behind) (sym (add-one line));
-          met = subst (Seen (set seen id 1)) (ap (λ x. identifiers rows ++ (x ∷ [])) (sym r.identifier) ∙ sym (ids-append rows (row ∷ []))) (seen_more p.met id id_byte);
+          met = subst (Seen (set seen id true)) (ap (λ x. identifiers rows ++ (x ∷ [])) (sym r.identifier) ∙ sym (ids-append rows (row ∷ []))) (seen_more p.met id id_byte);
         }
 
   -- all lines are read when the next one would be too many
   pub all_read : m < line → ReadTo text m l seen (m + 1) rest
   all_read all = subst (λ k. ReadTo text m l seen k rest) (omega (arith, p.line_is, p.few)) p
 
-module _ {text : List ℕ} {m l : ℕ} {seen rest : List ℕ} (p : ReadTo text m l seen (m + 1) rest) where
+module _ {text : List ℕ} {m l : ℕ} {seen : List Bool} {rest : List ℕ} (p : ReadTo text m l seen (m + 1) rest) where
   -- behind all rows nothing may follow
   pub more_follows : eqb (length rest) 0 ≡ false → WrongAt text m l (m + 1)
   more_follows more t =

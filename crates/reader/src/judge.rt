@@ -14,14 +14,14 @@ const BYTES: usize = 256;
 pub fn judge_lines(text: &[u8], head: &Head) -> Result<(), usize>
     ensures { MatchResult result (λ u. SomeRows text.now head.now.rows head.now.values) (λ k. (t : ℕ) → unrows t head.now.values head.now.rows 1 [] text.now ≡ not_at k) }
 {
-    let mut seen = [0u8; BYTES];
+    let mut seen = [false; BYTES];
     let mut rest = text;
     for line in 1..=head.rows {
         let (id, behind) = read_row(rest, head.values).ok_or(line)?;
-        if seen[id] != 0 {
+        if seen[id] {
             return Err(line);
         }
-        seen[id] = 1;
+        seen[id] = true;
         rest = behind;
     }
     if !rest.is_empty() {

@@ -141,15 +141,12 @@ impl Gf256 {
     pub fn div(self, other: Gf256) -> Result<Gf256, Reason>
         ensures { gf256_answer_of result ≡ quotient_outcome self.0 other.0 }
     {
-        if other.0 == 0 {
-            Err(Reason::InvalidShareElement)
-        } else {
-            Ok(Gf256(gf256_mul(self.0, gf256_inverse(other.0))))
-        }
+        Ok(self.mul(other.invert()?))
     }
 }
 
-// The identifier of a row: an element that is counted up as a number.
+// The identifier of a row: an element that is counted up as a number. What it has of an element it hands on under the crate's names;
+// one trait for both types would state each of these promises twice all the same, once for each view of the byte.
 #[derive(Clone, Copy)]
 pub struct IdentifierGf256(pub Gf256);
 
@@ -173,11 +170,10 @@ impl IdentifierGf256 {
     pub fn from_slice(slice: &[u8]) -> Result<IdentifierGf256, Reason>
         ensures { identifier_answer_of result ≡ slice_outcome slice.now }
     {
-        if slice.len() == 1 {
-            Ok(IdentifierGf256(Gf256(slice[0])))
-        } else {
-            Err(Reason::InvalidShareElement)
-        }
+        let [byte] = *slice else {
+            return Err(Reason::InvalidShareElement);
+        };
+        Ok(IdentifierGf256(Gf256(byte)))
     }
 
     pub fn is_zero(self) -> u8

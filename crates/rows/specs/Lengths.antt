@@ -1,7 +1,5 @@
 -- Row lengths that come as bytes, four a row, least first.
 -- Assumes nothing.
-use mathlib.Core.Path.{◌≡◌, refl, ap}
-use mathlib.Core.List.{map}
 use Rattle.std.specs.Prelude.{List, [], ◌∷◌, ◌++◌, ℕ, zero, suc, ◌+◌, ◌*◌, ◌/◌, ◌%◌, ◌^◌, length, get_or, drop}
 
 -- the number that four bytes make
@@ -29,8 +27,3 @@ fours (suc m) bytes = four (get_or bytes 0 0) (get_or bytes 1 0) (get_or bytes 2
 -- of as many fours as are whole
 unfoldable pub lengths_of : List ℕ → List ℕ
 lengths_of bytes = fours (length bytes / 4) bytes
-
--- numbers are the lengths that they are
-pub unchanged : (ns : List ℕ) → ns ≡ map (λ n. n) ns
-unchanged [] = refl
-unchanged (n ∷ ns) = ap (n ∷◌) (unchanged ns)

@@ -11,7 +11,9 @@ ghost use Rattle.shamir.specs.Rows.{combined};
 ghost use Rattle.rows.specs.Search.{sum, all_are, place_of, IsFound, first_repeated, first_repeating};
 ghost use Rattle.strides.specs.Strides.{strided};
 ghost use Rattle.rows.specs.Storage.{cut, values};
-ghost use Rattle.rows.specs.Lengths.{four_of, lengths_of, unchanged};
+ghost use Rattle.rows.specs.Lengths.{four_of, lengths_of};
+ghost use Rattle.std.proofs.Common.{sym};
+ghost use Rattle.std.proofs.lemmas.List.{map-id};
 ghost use Rattle.rows.specs.Combining.{Ready, plus_times, plus_rows};
 
 // Bytes, and those that identifiers can be: all but 0.
@@ -37,7 +39,7 @@ impl Length for u32 {
 
     ghost lengths = { λ ns. ns };
 
-    ghost each = { unchanged };
+    ghost each = { λ ns. sym (map-id ns) };
 
     fn value(self) -> u32 {
         self

@@ -1,5 +1,5 @@
 // Reads the fields of a call: numbers and byte strings.
-ghost use Rattle.std.specs.Prelude.{◌≡◌, ◌≤◌, ◌<◌, IfOk, IfSome, vec_len};
+ghost use Rattle.std.specs.Prelude.{◌≤◌, ◌<◌, IfOk, IfSome, vec_len};
 
 use std::alloc::{AllocError, AllocFailed, Global};
 use std::io;

@@ -1,5 +1,4 @@
 // Prints answers.
-ghost use Rattle.std.specs.Prelude.{◌<◌};
 ghost use Rattle.replay.specs.Touched.{TouchedIs};
 
 use std::io;

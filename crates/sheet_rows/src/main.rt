@@ -1,6 +1,5 @@
 // Reads a sheet from standard input and prints its row lines as they stand, or the number of the refusal alone on a line, or, where the
-// text has more than 48 KiB, the line `too large`. Where the input cannot be read any further, it
-// ends there.
+// text has more than 48 KiB, the line `too large`. Where the input cannot be read any further, it ends there.
 #![tactic(auto)]
 
 ghost use Rattle.std.specs.Prelude.{◌≡◌, ◌≤◌, ◌==◌, Ok, Err, MatchResult, length, position};
@@ -10,7 +9,7 @@ ghost use Rattle.sheet_rows.specs.Shown.{ShowsRight};
 
 use std::io;
 
-// A text may have this many bytes.
+// A text may have this many bytes. The contracts have the number itself, so that another here is refused.
 const MOST: usize = 49152;
 
 fn first_line_feed(text: &[u8]) -> Option<usize>

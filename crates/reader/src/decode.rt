@@ -45,6 +45,7 @@ pub fn take_rows(text: &[u8], head: &Head, out: &mut [u8])
 {
     let w = head.values + 1;
     let mut rest = text;
+    // By place: of the parts that chunks_exact_mut lends a proof knows their length alone.
     for i in 0..head.rows {
         let p = i * w;
         let q = p + w;

@@ -1,6 +1,7 @@
 // The lines of a sheet, at the front of a text.
-ghost use Rattle.std.specs.Prelude.{◌≡◌, ◌<◌, ◌≤◌, MatchOption};
+ghost use Rattle.std.specs.Prelude.{◌≡◌, List, ◌∷◌, ℕ, ◌<◌, ◌≤◌, MatchOption};
 ghost use Rattle.row_set.specs.Limits.{max_secret};
+ghost use Rattle.sheets.specs.Text.{line_feed};
 ghost use Rattle.reading.specs.Unsheet.{not_at, unsheet};
 ghost use Rattle.reader.specs.Taking.{FieldRead, NoField, HeadRead, StartRead, NoStart, RowRead, NoRow};
 
@@ -19,6 +20,15 @@ fn read_field(text: &[u8], least: usize, most: usize) -> Option<(usize, &[u8])>
     Some((n, rest))
 }
 
+// The text behind a line feed. This stands out of line, so that the compiler does not judge it together with a row's digits: whether these
+// are hex is told by a jump of its own.
+#[inline(never)]
+fn end_line(text: &[u8]) -> Option<&[u8]>
+    ensures { MatchOption result ((rest : List ℕ) → text.now ≡ line_feed ∷ rest → ⊥) (λ r. text.now ≡ line_feed ∷ r.now) }
+{
+    text.strip_prefix(&[sheets::LINE_FEED])
+}
+
 // The numbers of the text's first line, where it begins with a first line of a sheet.
 pub fn read_head(text: &[u8]) -> Option<(Head, &[u8])>
     ensures { MatchOption result (unsheet text.now ≡ not_at 0) (λ r. HeadRead text.now r.0.threshold r.0.rows r.0.values r.1.now) }
@@ -27,7 +37,7 @@ pub fn read_head(text: &[u8]) -> Option<(Head, &[u8])>
     let (threshold, text) = read_field(text, 2, row_set::MAX_SHARES)?;
     let (rows, text) = read_field(text, 1, row_set::MAX_SHARES)?;
     let (values, text) = read_field(text, 1, row_set::MAX_SECRET)?;
-    let text = text.strip_prefix(&[sheets::LINE_FEED])?;
+    let text = end_line(text)?;
     let head = Head {
         threshold,
         rows,
@@ -56,6 +66,6 @@ pub fn read_row(text: &[u8], l: usize) -> Option<(usize, &[u8])>
     if !all_hex(digits) {
         return None;
     }
-    let text = text.strip_prefix(&[sheets::LINE_FEED])?;
+    let text = end_line(text)?;
     Some((id, text))
 }

@@ -12,4 +12,5 @@ pub mod PutDigits
 pub mod HexDigits
 pub mod PutLines
 pub mod PutRows
+pub mod RowChunks
 pub mod SheetRules

@@ -3,10 +3,10 @@
 use mathlib.Core.Path.{◌≡◌, sym, ap, ap₂, ◌∙◌, subst}
 use mathlib.Core.List.{List, ◌++◌, append_assoc, append-nil}
 use Prim.Native.Nat.{ℕ, zero, suc, ◌+◌, ◌*◌, ◌-◌, ◌^◌, ◌<◌, ◌≤◌}
-use native.Mathlib.Nat.{mul-le-mul_right, add-zero}
+use native.Mathlib.Nat.{mul-le-mul_right}
 use native.Mathlib.Omega.{arith}
 use lib.ListN.{length, get_or, take, drop, replicate, length-append, length-drop, length-replicate}
-use lib.Seq.{drop-drop, length-take-le, get_or-take, get_or-drop}
+use lib.Seq.{drop-drop, length-take-le}
 use Rattle.shamir.specs.Lists.{Below}
 use Rattle.shamir.proofs.Lists.{all_take, all_drop, all_at}
 use Rattle.rows.specs.Storage.{cut}
@@ -71,18 +71,16 @@ module _ (m w : ℕ) (s : List ℕ) (i : ℕ) (more : i < m) where
 
   -- as long as the code counts, with l values a row
   pub line-length : (l : ℕ) → w ≡ l + 1 → m * w ≤ length s
-      → length (lines_to (i + 1) w s) ≡ length (lines_to i w s) + (length (decimal (get_or s (i * w) 0)) + 2 * l + 6)
+      → length (lines_to (i + 1) w s) ≡ length (lines_to i w s) + (length (decimal (get_or (row_at i w s) 0 0)) + 2 * l + 6)
   line-length l wide h =
       let row = row_at i w s in
       let long : length row ≡ w = length-take-le w (drop (i * w) s) (omega (arith, length-drop (i * w) s, row_inside h)) in
-      let first : get_or row 0 0 ≡ get_or s (i * w) 0 = get_or-take w (drop (i * w) s) 0 0 (omega arith) ∙ get_or-drop (i * w) s 0 0 ∙ ap (λ k. get_or s k 0) (add-zero (i * w)) in
       omega (
         arith,
         ap length (lines_more i w s),
         length-append (lines_to i w s) (row_line row),
         length-row_line row,
         length-drop 1 row,
-        ap (λ x. length (decimal x)) first,
       )
 
 -- .. and it is put behind the lines before it

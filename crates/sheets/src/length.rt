@@ -44,8 +44,8 @@ pub fn sheet_length(head: &Head, rows: &[u8]) -> usize
 {
     let w = head.values + 1;
     let mut n = head_length(head.threshold, head.rows, head.values);
-    for i in 0..head.rows {
-        n += row_length(rows[i * w], head.values);
+    for row in rows[..head.rows * w].chunks_exact(w) {
+        n += row_length(row[0], head.values);
     }
     n
 }

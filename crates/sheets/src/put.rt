@@ -126,9 +126,8 @@ impl<'a> Page<'a> {
         ensures same { self.new.out.ghost_name ≡ self.old.out.ghost_name }
         ensures puts { Puts (row_lines (cut (replicate m w) rows.now)) self.old.end self.old.out.now self.new.end self.new.out.now }
     {
-        for i in 0..m {
-            let p = i * w;
-            self.row(&rows[p..p + w]);
+        for row in rows[..m * w].chunks_exact(w) {
+            self.row(row);
         }
     }
 

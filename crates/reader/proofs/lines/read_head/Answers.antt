@@ -1,10 +1,10 @@
 -- `read_head` meets its contract: each piece that is missing shows that the text begins with no first line.
 use mathlib.Core.Path.{◌≡◌}
-use mathlib.Core.List.{[], ◌∷◌, ◌++◌}
+use mathlib.Core.List.{◌++◌}
 use Rattle.std.proofs.Common.{rules}
 use Rattle.sheets.specs.Sheet.{seal_word}
-use Rattle.reader.proofs.WordRead.{stripped, other_word}
-use Rattle.reader.proofs.HeadLineRead.{no_word, no-threshold, no_rows, no-values, no_end}
+use Rattle.reader.proofs.WordRead.{stripped}
+use Rattle.reader.proofs.HeadLineRead.{no_word, no-threshold, no_rows, no-values, no_end, head_passes}
 use Rattle.reader.proofs.lines.read_head.Goals as goal
 use Rattle.reader.proofs.lines.read_head.Goals.{In_ok-text}
 
@@ -31,4 +31,9 @@ pub returns-in_err-text-2 : goal.returns-in_err-text-2
 returns-in_err-text-2 c =
     rw c.from_residual-in_err-text-2.ensures
     (no_end c.args.text.now (word (goal.at.returns-in_err-text-2 c).In_ok-text) c.in_ok-threshold.ensures c.in_ok-rows.ensures c.in_ok-values.ensures
-    (other_word c.in_ok-values.text.now (10 ∷ []) c.in_err-text-2.ensures.cases))
+    c.in_err-text-2.ensures)
+
+pub returns : goal.returns
+returns c =
+    head_passes c.args.text.now (word (goal.at.returns c).In_ok-text) c.in_ok-threshold.ensures c.in_ok-rows.ensures c.in_ok-values.ensures
+    c.in_ok-text-2.text.now c.in_ok-text-2.ensures

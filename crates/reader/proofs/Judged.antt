@@ -1,6 +1,7 @@
 -- The rows that were read so far, and what the next line makes of them.
 -- Assumes nothing.
 use mathlib.Core.Path.{◌≡◌, refl, sym, ap, ap₂, ◌∙◌, subst}
+use mathlib.Core.Bool.{Bool, true, false}
 use mathlib.Core.List.{List, [], ◌∷◌, ◌++◌, append_assoc, append-nil}
 use mathlib.Core.Logic.{⊎_elim}
 use Prim.Native.Nat.{ℕ, suc, ◌+◌, ◌*◌, ◌-◌, ◌<◌, ◌≤◌}
@@ -23,7 +24,7 @@ use Rattle.reader.specs.Taking.{row_at, RowAt, LinesAt}
 use Rattle.rows.proofs.Marks.{Seen, seen_none, seen_more}
 
 -- the lines before line, up to next, are those of right rows, and the text is read on from there
-pub record ReadTo (text : List ℕ) (at m l : ℕ) (seen : List ℕ) (line next : ℕ) : Type 0 where
+pub record ReadTo (text : List ℕ) (at m l : ℕ) (seen : List Bool) (line next : ℕ) : Type 0 where
   pub rows : List (List ℕ)
   pub are_rows : Rows l rows
   pub few : length rows ≤ m
@@ -33,7 +34,7 @@ pub record ReadTo (text : List ℕ) (at m l : ℕ) (seen : List ℕ) (line next 
   pub reads : (t : ℕ) → unrows t l m 1 [] (drop at text) ≡ unrows t l (m - length rows) line rows (drop next text)
   pub met : Seen seen (identifiers rows)
 
-pub nothing_read : (text : List ℕ) (at m l : ℕ) → at ≤ length text → ReadTo text at m l (replicate 256 0) 1 at
+pub nothing_read : (text : List ℕ) (at m l : ℕ) → at ≤ length text → ReadTo text at m l (replicate 256 false) 1 at
 nothing_read text at m l h = record {
   rows = [];
   are_rows = no_rows l;
@@ -45,7 +46,7 @@ nothing_read text at m l h = record {
   met = seen_none;
 }
 
-module _ {text : List ℕ} {at m l : ℕ} {seen : List ℕ} {line next : ℕ} (p : ReadTo text at m l seen line next) where
+module _ {text : List ℕ} {at m l : ℕ} {seen : List Bool} {line next : ℕ} (p : ReadTo text at m l seen line next) where
   -- a line behind them at which no new row stands is the first wrong one, ..
   stops : line ≤ m → (RowBegins l p.rows (drop next text) → ⊥) → LinesAt text at m l line
   stops more none =
@@ -74,10 +75,11 @@ module _ {text : List ℕ} {at m l : ℕ} {seen : List ℕ} {line next : ℕ} (p
     writable x g = record { some = omega (arith, g.long); bytes = g.bytes }
 
     -- .. so is one whose identifier is marked, ..
-    pub repeats : line ≤ m → (get_or seen id 0 ≡ 0 → ⊥) → LinesAt text at m l line
+    pub repeats : line ≤ m → get_or seen id false ≡ true → LinesAt text at m l line
     repeats more taken = stops more (λ b.
         let same = (row_told row b.row _ b.later (writable row good) (writable b.row b.good) (sym (r.right some).1 ∙ b.parts)).0 in
-        taken (p.met.marked id id_byte (subst (λ x. Fresh (get_or x 0 0) (identifiers p.rows)) (sym same) b.fresh)))
+        let two : true ≡ false = sym taken ∙ p.met.marked id id_byte (subst (λ x. Fresh (get_or x 0 0) (identifiers p.rows)) (sym same) b.fresh) in
+        cc)
 
     next_inside : next + (length (decimal id) + 2 * l + 6) ≤ length text
     next_inside =
@@ -93,7 +95,7 @@ module _ {text : List ℕ} {at m l : ℕ} {seen : List ℕ} {line next : ℕ} (p
         )
 
     -- .. and with a new row the text is read on behind it
-    pub row_read : line ≤ m → get_or seen id 0 ≡ 0 → ReadTo text at m l (set seen id 1) (line + 1) (next + (length (decimal id) + 2 * l + 6))
+    pub row_read : line ≤ m → get_or seen id false ≡ false → ReadTo text at m l (set seen id true) (line + 1) (next + (length (decimal id) + 2 * l + 6))
     row_read more free =
         let rows = p.rows in
         let rows' = rows ++ (row ∷ []) in
@@ -117,7 +119,7 @@ module _ {text : List ℕ} {at m l : ℕ} {seen : List ℕ} {line next : ℕ} (p
               ∙ ap₂ (λ n x. unrows t l n line rows x) left stands
               ∙ row-right l rows t (m - length rows') line good fresh v
               ∙ ap (λ k. unrows t l (m - length rows') k rows' v) (sym (add-one line));
-          met = subst (Seen (set seen id 1)) (sym (ids-append rows (row ∷ []))) (seen_more p.met id id_byte);
+          met = subst (Seen (set seen id true)) (sym (ids-append rows (row ∷ []))) (seen_more p.met id id_byte);
         }
 
   -- behind all rows nothing may follow

@@ -14,7 +14,7 @@ pub fn wrong_line(text: &[u8], at: usize, m: usize, l: usize) -> usize
     requires { (at ≤ length text.now) × (m ≤ max_shares) × (l ≤ max_secret) }
     ensures { LinesAt text.now at m l result }
 {
-    let mut seen = [0u8; BYTES];
+    let mut seen = [false; BYTES];
     let mut line = 1;
     let mut next = at;
     while line <= m {
@@ -22,10 +22,10 @@ pub fn wrong_line(text: &[u8], at: usize, m: usize, l: usize) -> usize
         if id == 0 {
             return line;
         }
-        if seen[id] != 0 {
+        if seen[id] {
             return line;
         }
-        seen[id] = 1;
+        seen[id] = true;
         next += sheets::row_length(id as u8, l);
         line += 1;
     }

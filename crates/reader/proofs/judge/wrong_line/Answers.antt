@@ -1,5 +1,6 @@
 -- `wrong_line` meets its contract: the lines before the next one are those of right rows, and their identifiers are marked.
 use mathlib.Core.Path.{sym, subst}
+use mathlib.Core.Bool.{true}
 use Prim.Native.Nat.{◌+◌}
 use native.Mathlib.Omega.{arith}
 use lib.ListN.{set}
@@ -22,9 +23,9 @@ returns-then-id-eq0 c =
 pub bounds-seen-id : goal.bounds-seen-id
 bounds-seen-id c = id_byte c.loop-line.invariant c.read_row-id.ensures (omega (arith, c.if-id-eq0.false))
 
-pub returns-then-seen-id-ne0 : goal.returns-then-seen-id-ne0
-returns-then-seen-id-ne0 c =
-    repeats c.loop-line.invariant c.read_row-id.ensures (omega (arith, c.if-id-eq0.false)) c.loop-line-test.true c.if-seen-id-ne0.true
+pub returns-then-seen-id : goal.returns-then-seen-id
+returns-then-seen-id c =
+    repeats c.loop-line.invariant c.read_row-id.ensures (omega (arith, c.if-id-eq0.false)) c.loop-line-test.true c.if-seen-id.true
 
 pub bounds-seen-id-in-loop-line : goal.bounds-seen-id-in-loop-line
 bounds-seen-id-in-loop-line c = id_byte c.loop-line.invariant c.read_row-id.ensures (omega (arith, c.if-id-eq0.false))
@@ -48,8 +49,8 @@ pub loop-line-preserved : goal.loop-line-preserved
 loop-line-preserved c =
     let a = c.args in
     let l = c.loop-line in
-    subst (λ n. ReadTo a.text.now a.at a.m a.l (set l.seen c.read_row-id.result 1) (l.line + 1) (l.next + n)) (sym c.row_length-next.ensures.0)
-    (row_read l.invariant c.read_row-id.ensures (omega (arith, c.if-id-eq0.false)) c.loop-line-test.true c.if-seen-id-ne0.false)
+    subst (λ n. ReadTo a.text.now a.at a.m a.l (set l.seen c.read_row-id.result true) (l.line + 1) (l.next + n)) (sym c.row_length-next.ensures.0)
+    (row_read l.invariant c.read_row-id.ensures (omega (arith, c.if-id-eq0.false)) c.loop-line-test.true c.if-seen-id.false)
 
 pub returns-then-next-text : goal.returns-then-next-text
 returns-then-next-text c = more_follows c.loop-line.invariant (omega arith) c.if-next-text.true

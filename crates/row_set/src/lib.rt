@@ -26,10 +26,12 @@ fn judge_equal_rows(rows: &Rows) -> Result<usize, Reason>
     requires { 1 < rows.now.width }
     ensures { answer_of result ≡ judged_identifiers (rows.now.width - 1) (row_ids rows.now) (done (rows.now.width - 1)) }
 {
-    if let Some(z) = rows.find(0, 0) {
+    let zero = rows.find(0, 0);
+    let repeat = rows.first_repeating();
+    if let Some(z) = zero {
         return Err(Reason::SharingInvalidIdentifier(z));
     }
-    if let Some(j) = rows.first_repeating() {
+    if let Some(j) = repeat {
         let i = rows.first_repeated(j);
         return Err(Reason::SharingDuplicateIdentifier(i, j));
     }

@@ -21,15 +21,26 @@ mod calls;
 mod parse;
 mod print;
 
+use parse::Fault;
 use std::io;
 
 // A text may have this many bytes.
 const MOST: usize = 1048576;
 
+// Prints what a call comes to.
+fn run<R: Print + AllocGlobal>(rt: &R, call: &[u8]) -> io::Result<()> {
+    match calls::answer(rt.alloc(), call) {
+        Ok(answer) => print!(rt; "{answer}"),
+        Err(Fault::Unreadable) => print!(rt; "unreadable"),
+        Err(Fault::TooLarge) => print!(rt; "too large"),
+        Err(Fault::OutOfMemory(e)) => Err(e.into()),
+    }
+}
+
 fn line<R: Print + AllocGlobal>(rt: &R, text: &[u8]) -> io::Result<()> {
     match text {
         [] | [b'#', ..] => rt.write_all(text)?,
-        _ => calls::run(rt, text)?,
+        _ => run(rt, text)?,
     }
     println!(rt)
 }

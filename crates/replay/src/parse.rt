@@ -2,31 +2,24 @@
 ghost use Rattle.std.specs.Prelude.{◌≤◌, ◌<◌, IfOk, IfSome, vec_len};
 
 use std::alloc::{AllocError, AllocFailed, Global};
-use std::io;
 
 // Why a line has no answer.
 #[derive(Drop)]
 pub enum Fault {
     Unreadable,
     TooLarge,
-    Io(io::Error),
-}
-
-impl From<io::Error> for Fault {
-    fn from(e: io::Error) -> Fault {
-        Fault::Io(e)
-    }
+    OutOfMemory(AllocError),
 }
 
 impl From<AllocError> for Fault {
     fn from(e: AllocError) -> Fault {
-        Fault::Io(e.into())
+        Fault::OutOfMemory(e)
     }
 }
 
 impl<T: Drop> From<AllocFailed<T>> for Fault {
     fn from(e: AllocFailed<T>) -> Fault {
-        Fault::Io(e.into())
+        Fault::OutOfMemory(e.into())
     }
 }
 

@@ -1,20 +1,13 @@
-// Prints answers.
+// What is printed of a call.
 ghost use Rattle.replay.specs.Touched.{TouchedIs};
 
-use std::io;
+use std::fmt;
 
 // What lent memory holds before a call.
 pub const UNTOUCHED: u8 = 0xee;
 
 // Words from here on are refusals, the others counts.
 const REFUSALS: u64 = 0x100_0000_0000;
-
-fn hex(rt: &impl Print, s: &[u8]) -> io::Result<()> {
-    for b in s {
-        print!(rt; "{b:02x}")?;
-    }
-    Ok(())
-}
 
 // A checksum that places count in, so that two bytes changed about are seen.
 fn checksum(s: &[u8]) -> u64 {
@@ -32,40 +25,56 @@ fn is_touched(s: &[u8]) -> bool
 }
 
 // Lent memory at exit, where it is short enough to read, else its checksum.
-fn memory(rt: &impl Print, s: &[u8]) -> io::Result<()> {
-    if s.len() <= 64 {
-        print!(rt; " ")?;
-        hex(rt, s)
-    } else {
-        let sum = checksum(s);
-        print!(rt; " sum {sum}")
-    }
-}
+#[derive(Drop)]
+struct Memory<'a>(&'a [u8]);
 
-fn done(rt: &impl Print, count: u64, lent: &[&[u8]]) -> io::Result<()> {
-    print!(rt; "done {count}")?;
-    for s in lent {
-        memory(rt, s)?;
+impl fmt::Display for Memory<'_> {
+    fn fmt<W: fmt::Write>(&self, f: &mut fmt::Formatter<W>) -> fmt::Result {
+        let s = self.0;
+        if s.len() > 64 {
+            let sum = checksum(s);
+            return write!(f, "sum {sum}");
+        }
+        for b in s {
+            write!(f, "{b:02x}")?;
+        }
+        Ok(())
     }
-    Ok(())
-}
-
-fn refused(rt: &impl Print, word: u64, lent: &[&[u8]]) -> io::Result<()> {
-    let reason = word / REFUSALS;
-    let first = word / 0x1_0000 % 0x100_0000;
-    let second = word % 0x1_0000;
-    print!(rt; "refused {reason} {first} {second}")?;
-    if lent.iter().any(|s| is_touched(s)) {
-        print!(rt; " changed")?;
-    }
-    Ok(())
 }
 
 // The word that an entry gave back, and the memories that were lent, as it left them.
-pub fn answer(rt: &impl Print, word: u64, lent: &[&[u8]]) -> io::Result<()> {
-    if word < REFUSALS {
-        done(rt, word, lent)
-    } else {
-        refused(rt, word, lent)
+#[derive(Drop)]
+pub struct Answer {
+    pub word: u64,
+    pub head: Option<Vec<u8>>,
+    pub out: Vec<u8>,
+}
+
+impl Answer {
+    fn is_changed(&self) -> bool {
+        self.head.as_ref().is_some_and(|head| is_touched(head)) || is_touched(&self.out)
+    }
+}
+
+impl fmt::Display for Answer {
+    fn fmt<W: fmt::Write>(&self, f: &mut fmt::Formatter<W>) -> fmt::Result {
+        let word = self.word;
+        if word < REFUSALS {
+            write!(f, "done {word} ")?;
+            if let Some(head) = &self.head {
+                let head = Memory(head);
+                write!(f, "{head} ")?;
+            }
+            let out = Memory(&self.out);
+            return write!(f, "{out}");
+        }
+        let number = word / REFUSALS;
+        let first = word / 0x1_0000 % 0x100_0000;
+        let second = word % 0x1_0000;
+        write!(f, "refused {number} {first} {second}")?;
+        if self.is_changed() {
+            write!(f, " changed")?;
+        }
+        Ok(())
     }
 }

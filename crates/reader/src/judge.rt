@@ -17,7 +17,7 @@ pub fn judge_lines(text: &[u8], head: &Head) -> Result<(), usize>
     let mut seen = [false; BYTES];
     let mut rest = text;
     for line in 1..=head.rows {
-        let (id, behind) = read_row(rest, head.values).ok_or(line)?;
+        let (id, behind) = read_row(rest, head).ok_or(line)?;
         if seen[id] {
             return Err(line);
         }

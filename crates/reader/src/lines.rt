@@ -1,6 +1,5 @@
 // The lines of a sheet, at the front of a text.
 ghost use Rattle.std.specs.Prelude.{◌≡◌, List, ◌∷◌, ℕ, ◌<◌, ◌≤◌, MatchOption};
-ghost use Rattle.row_set.specs.Limits.{max_secret};
 ghost use Rattle.sheets.specs.Text.{line_feed};
 ghost use Rattle.reading.specs.Unsheet.{not_at, unsheet};
 ghost use Rattle.reader.specs.Taking.{FieldRead, NoField, HeadRead, StartRead, NoStart, RowRead, NoRow};
@@ -56,13 +55,12 @@ pub fn read_start(text: &[u8]) -> Option<(usize, &[u8])>
     Some((id, text))
 }
 
-// The identifier of a row with l values, where the text begins with its line.
-pub fn read_row(text: &[u8], l: usize) -> Option<(usize, &[u8])>
-    requires { l ≤ max_secret }
-    ensures { MatchOption result (NoRow text.now l) (λ r. RowRead text.now l r.0 r.1.now) }
+// The identifier of a row with as many values as the first line says, where the text begins with its line.
+pub fn read_row<'a>(text: &'a [u8], head: &Head) -> Option<(usize, &'a [u8])>
+    ensures { MatchOption result (NoRow text.now head.now.values) (λ r. RowRead text.now head.now.values r.0 r.1.now) }
 {
     let (id, text) = read_start(text)?;
-    let (digits, text) = text.split_at_checked(l * 2)?;
+    let (digits, text) = text.split_at_checked(head.values * 2)?;
     if !all_hex(digits) {
         return None;
     }

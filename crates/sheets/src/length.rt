@@ -1,7 +1,7 @@
 // How long a sheet is, before it is written.
 ghost use Rattle.std.specs.Prelude.{◌≡◌, ◌+◌, ◌*◌, ◌<◌, ◌≤◌, length, replicate};
 ghost use Rattle.rows.specs.Storage.{cut};
-ghost use Rattle.row_set.specs.Limits.{max_secret, max_shares, max_rows};
+ghost use Rattle.row_set.specs.Limits.{max_secret};
 ghost use Rattle.sheets.specs.Text.{decimal};
 ghost use Rattle.sheets.specs.Sheet.{head_line, sheet};
 
@@ -22,11 +22,10 @@ pub fn decimal_length(n: usize) -> usize
 }
 
 // Of the first line: its word, three tabs, a line feed, and three numbers.
-pub fn head_length(threshold: usize, m: usize, l: usize) -> usize
-    requires { (threshold ≤ max_shares) × (m ≤ max_rows) × (l ≤ max_secret) }
-    ensures { (result ≡ length (head_line threshold m l)) × (result ≤ 23) }
+pub fn head_length(head: &Head) -> usize
+    ensures { (result ≡ length (head_line head.now.threshold head.now.rows head.now.values)) × (result ≤ 23) }
 {
-    decimal_length(threshold) + decimal_length(m) + decimal_length(l) + 8
+    decimal_length(head.threshold) + decimal_length(head.rows) + decimal_length(head.values) + 8
 }
 
 // Of a row's line with l values: the identifier's digits, two a value, and six more.
@@ -43,7 +42,7 @@ pub fn sheet_length(head: &Head, rows: &[u8]) -> usize
     ensures { result ≡ length (sheet head.now.threshold head.now.values (cut (replicate head.now.rows (head.now.values + 1)) rows.now)) }
 {
     let w = head.values + 1;
-    let mut n = head_length(head.threshold, head.rows, head.values);
+    let mut n = head_length(head);
     for row in rows[..head.rows * w].chunks_exact(w) {
         n += row_length(row[0], head.values);
     }

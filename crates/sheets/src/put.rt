@@ -7,6 +7,7 @@ ghost use Rattle.sheets.specs.Sheet.{head_line, row_line, row_lines};
 ghost use Rattle.sheets.specs.Writing.{Puts};
 
 use crate::head::Head;
+use rows::Rows;
 
 pub const TAB: u8 = 9;
 
@@ -120,13 +121,13 @@ impl<'a> Page<'a> {
         self.byte(LINE_FEED);
     }
 
-    // The lines of m rows of w bytes.
-    pub fn rows(&mut self, rows: &[u8], w: usize, m: usize)
-        requires { (0 < w) × (m * w ≤ length rows.now) × (self.old.end + length (row_lines (cut (replicate m w) rows.now)) ≤ length self.old.out.now) }
+    // The lines of rows.
+    pub fn rows(&mut self, rows: &Rows)
+        requires { self.old.end + length (row_lines (cut (replicate rows.now.count rows.now.width) rows.now.bytes.now)) ≤ length self.old.out.now }
         ensures same { self.new.out.ghost_name ≡ self.old.out.ghost_name }
-        ensures puts { Puts (row_lines (cut (replicate m w) rows.now)) self.old.end self.old.out.now self.new.end self.new.out.now }
+        ensures puts { Puts (row_lines (cut (replicate rows.now.count rows.now.width) rows.now.bytes.now)) self.old.end self.old.out.now self.new.end self.new.out.now }
     {
-        for row in rows[..m * w].chunks_exact(w) {
+        for row in rows.bytes[..rows.count * rows.width].chunks_exact(rows.width) {
             self.row(row);
         }
     }

@@ -8,6 +8,7 @@ use crate::head::Head;
 use crate::length::sheet_length;
 use crate::put::Page;
 use answer::Reason;
+use rows::Rows;
 
 // Of m accepted rows with l values each.
 fn write_accepted(
@@ -37,7 +38,11 @@ fn write_accepted(
     }
     let mut page = Page::new(out);
     page.head(&head);
-    page.rows(rows, l + 1, m);
+    page.rows(&Rows {
+        bytes: rows,
+        width: l + 1,
+        count: m,
+    });
     Ok(n)
 }
 

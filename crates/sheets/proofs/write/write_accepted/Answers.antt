@@ -15,15 +15,16 @@ head-requires c =
     let page = c.new-page.ensures in
     omega (arith, page.at_front, ap length page.held, c.sheet_length-n.ensures, c.if-out-n.false, sheet_length_is a.threshold a.l a.m (a.l + 1) a.rows.now)
 
+pub invariant_of-rows : goal.invariant_of-rows
+invariant_of-rows c = record { some = omega arith; stored = omega (arith, c.requires.2) }
+
 pub rows-requires : goal.rows-requires
 rows-requires c =
     let a = c.args in
     let page = c.new-page.ensures in
     let p = c.head.ensures.puts in
     let all = sheet_length_is a.threshold a.l a.m (a.l + 1) a.rows.now in
-    let held = ap length page.held in (
-      omega arith,
-      omega (arith, c.requires.2),
+    let held = ap length page.held in
       omega (
         arith,
         page.at_front,
@@ -33,8 +34,7 @@ rows-requires c =
         all,
         p.ends,
         puts-length (omega (arith, page.at_front, held, c.sheet_length-n.ensures, c.if-out-n.false, all)) p,
-      ),
-    )
+      )
 
 pub returns : goal.returns
 returns c =

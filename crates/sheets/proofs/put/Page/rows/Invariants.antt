@@ -11,6 +11,6 @@ abbrev pub invariant-loop-row : goal.invariant-loop-row
 invariant-loop-row l =
     (l.self.out.ghost_name ≡ l.initial.self.out.ghost_name)
     × (length l.self.out.now ≡ length l.initial.self.out.now)
-    × (chunks_exact_size l.row-iterator ≡ l.w)
-    × LeftOf l.m l.w l.rows (length l.yielded) (chunks_exact_rest l.row-iterator)
-    × Puts (lines_to (length l.yielded) l.w l.rows) l.initial.self.end l.initial.self.out.now l.self.end l.self.out.now
+    × (chunks_exact_size l.row-iterator ≡ l.rows.width)
+    × LeftOf l.rows.count l.rows.width l.rows.bytes.now (length l.yielded) (chunks_exact_rest l.row-iterator)
+    × Puts (lines_to (length l.yielded) l.rows.width l.rows.bytes.now) l.initial.self.end l.initial.self.out.now l.self.end l.self.out.now

@@ -6,7 +6,7 @@ use native.Mathlib.Omega.{arith}
 use native.Mathlib.Nat.{suc-mul, mul-le-mul_right}
 use lib.Bits.{bit_xor}
 use lib.ListN.{length, take, drop, get_or, length-drop, drop_of_length-le}
-use lib.Seq.{drop-cons, get_or-drop, get_or-take, length-take-le, length_front, take_at}
+use lib.Seq.{drop-cons, get_or-drop, get_or-take, length-take-le, take_at}
 use Rattle.shamir.specs.Polynomial.{horner}
 use Rattle.shamir.specs.Rows.{row}
 use Rattle.shamir.proofs.Polynomial.{horner_is_value}
@@ -68,12 +68,9 @@ partial_last k x ss cs small =
     ∙ ap (λ n. each n (λ i. get_or (row gf256 k x ss cs) i 0)) (sym (length-row gf256 k x ss cs))
     ∙ sym (each_of (row gf256 k x ss cs) _ (λ i h. refl))
 
--- the front of a column that w coefficients are gathered into, and that front after they, g, came back there
-pub front : (w : ℕ) (column : List ℕ) → length column ≡ block_size → w ≤ block_size → length (take w column) ≡ w
+-- the front of a column that w coefficients are gathered into
+front : (w : ℕ) (column : List ℕ) → length column ≡ block_size → w ≤ block_size → length (take w column) ≡ w
 front w column h n = length-take-le w column (omega arith)
-
-pub front_back : (w : ℕ) (column g : List ℕ) → length column ≡ block_size → w ≤ block_size → length g ≡ length (take w column) → length (take w (g ++ drop w column)) ≡ w
-front_back w column g h n l = front w (g ++ drop w column) (length_front column g w l ∙ h) n
 
 -- a turn: the next degree is gathered, and a step is made with it
 pub turn : (ss cs vs column g : List ℕ) (k x j : ℕ) → 0 < j → j < k → length ss * k ≤ length cs → length column ≡ block_size → length ss ≤ block_size

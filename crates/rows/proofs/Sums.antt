@@ -9,7 +9,7 @@ use native.Mathlib.Numerals.{add-one}
 use native.Mathlib.Omega.{arith}
 use lib.Bits.{bit_xor, xor_zero_l, xor_zero_r}
 use lib.Dec.{lit<}
-use lib.ListN.{length, get_or, take, drop, replicate, length-drop, length-append, length-replicate, get_or-replicate, drop_of_length-le, length-map, get_or-append}
+use lib.ListN.{length, get_or, take, drop, replicate, length-drop, length-append, length-replicate, get_or-replicate, length-map, get_or-append}
 use lib.Seq.{ext_get_or, drop-cons, drop-drop, get_or-drop, get_or_at}
 use Rattle.gf256.specs.Field256.{mul256, gf256}
 use Rattle.gf256.proofs.Field256.{ring256, laws256}
@@ -46,9 +46,6 @@ row_next cs rows out₀ out out₁ w i h e p e₁ =
     ∙ ap (λ s. plus_rows w (drop (suc i) cs) s (plus_times (get_or cs i 0) out (drop 1 (drop at rows)))) (ap (λ n. drop n rows) (sym (next_row i w at refl)) ∙ sym (drop-drop w at rows))
     ∙ ap (λ l. plus_rows w l (drop at rows) out) (sym (drop-cons cs i 0 h))
     ∙ p
-
-pub rows_all : (cs rows out₀ out : List ℕ) (w i at : ℕ) → length cs ≤ i → plus_rows w (drop i cs) (drop at rows) out ≡ plus_rows w cs rows out₀ → out ≡ plus_rows w cs rows out₀
-rows_all cs rows out₀ out w i at h p = ap (λ l. plus_rows w l (drop at rows) out) (sym (drop_of_length-le cs h)) ∙ p
 
 -- ---- the sums by their places
 

@@ -1,12 +1,12 @@
 -- A loop that changes a list in place, one element a turn, and what it has made of the list in the end.
 -- Assumes nothing.
 use mathlib.Core.Path.{◌≡◌, refl, sym, ap, ◌∙◌}
-use mathlib.Core.List.{List, [], ◌∷◌, map, zip_with}
+use mathlib.Core.List.{List, [], ◌∷◌, zip_with}
 use mathlib.Core.Logic.{⊎_elim}
 use Prim.Native.Nat.{ℕ, zero, suc, ◌+◌, ◌<◌, ◌≤◌}
 use native.Mathlib.Nat.{eq-or-lt_of_le}
 use native.Mathlib.Omega.{arith}
-use lib.ListN.{length, get_or, set, replicate, length-set, length-map, length-replicate, get_or-replicate}
+use lib.ListN.{length, get_or, set, length-set}
 use lib.Seq.{get_or-set_same, get_or-set_other, ext_get_or}
 
 -- l is l₀ with f of its place and itself for each element before i
@@ -21,20 +21,12 @@ length-zip-le f [] ys h = refl
 length-zip-le f (x ∷ xs) [] h = absurd (omega arith)
 length-zip-le f (x ∷ xs) (y ∷ ys) h = ap suc (length-zip-le f xs ys (omega arith))
 
-pub zip-long : (f : ℕ → ℕ → ℕ) (xs ys l : List ℕ) → l ≡ zip_with f xs ys → length xs ≡ length ys → length l ≡ length xs
-zip-long f xs ys l e h = ap length e ∙ length-zip-le f xs ys (omega arith)
-
 pub get_or-zip : (f : ℕ → ℕ → ℕ) (xs ys : List ℕ) (k : ℕ) → k < length xs → k < length ys → get_or (zip_with f xs ys) k 0 ≡ f (get_or xs k 0) (get_or ys k 0)
 unfolding zip_with
 get_or-zip f [] ys k h j = absurd (omega arith)
 get_or-zip f (x ∷ xs) [] k h j = absurd (omega arith)
 get_or-zip f (x ∷ xs) (y ∷ ys) zero h j = refl
 get_or-zip f (x ∷ xs) (y ∷ ys) (suc k) h j = get_or-zip f xs ys k (omega arith) (omega arith)
-
-get_or-map : (f : ℕ → ℕ) (xs : List ℕ) (k : ℕ) → k < length xs → get_or (map f xs) k 0 ≡ f (get_or xs k 0)
-get_or-map f [] k h = absurd (omega arith)
-get_or-map f (x ∷ xs) zero h = refl
-get_or-map f (x ∷ xs) (suc k) h = get_or-map f xs k (omega arith)
 
 module _ {f : ℕ → ℕ → ℕ} {l₀ : List ℕ} where
   pub none : InPlace f l₀ 0 l₀
@@ -56,9 +48,3 @@ module _ {f : ℕ → ℕ → ℕ} {l₀ : List ℕ} where
 
     pub all-zip : (g : ℕ → ℕ → ℕ) (xs : List ℕ) → length l₀ ≡ length xs → ((k d : ℕ) → f k d ≡ g d (get_or xs k 0)) → l ≡ zip_with g l₀ xs
     all-zip g xs e s = all (zip_with g l₀ xs) (length-zip-le g l₀ xs (omega arith)) (λ k hk. s k (get_or l₀ k 0) ∙ sym (get_or-zip g l₀ xs k hk (omega arith)))
-
-    pub all_map : (g : ℕ → ℕ) → ((k d : ℕ) → f k d ≡ g d) → l ≡ map g l₀
-    all_map g s = all (map g l₀) (length-map l₀ g) (λ k hk. s k (get_or l₀ k 0) ∙ sym (get_or-map g l₀ k hk))
-
-    pub all_same : (a : ℕ) → ((k d : ℕ) → f k d ≡ a) → l ≡ replicate (length l₀) a
-    all_same a s = all (replicate (length l₀) a) (length-replicate (length l₀) a) (λ k hk. s k (get_or l₀ k 0) ∙ sym (get_or-replicate (length l₀) k a 0 hk))

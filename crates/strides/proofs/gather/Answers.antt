@@ -5,14 +5,8 @@ use native.Mathlib.Omega.{arith}
 use lib.ListN.{length}
 use Rattle.strides.specs.Strides.{strided}
 use Rattle.strides.proofs.Strides.{length-strided, strided_at}
-use Rattle.strides.proofs.InPlace.{none, next, all}
+use Rattle.strides.proofs.InPlace.{all}
 use Rattle.strides.proofs.gather.Goals as goal
-
-pub loop-i-init : goal.loop-i-init
-loop-i-init c = none
-
-pub loop-i-preserved : goal.loop-i-preserved
-loop-i-preserved c = next c.loop-i.i _ c.loop-i.invariant (omega arith) refl
 
 pub returns : goal.returns
 returns c =

@@ -1,16 +1,10 @@
 -- `find` meets its contract: the place that is sought is i and what is left of the search from i on.
-use mathlib.Core.Path.{sym, ◌∙◌}
+use mathlib.Core.Path.{◌∙◌}
 use native.Mathlib.Omega.{arith}
 use Rattle.rows.specs.Identifiers.{row_ids}
 use Rattle.rows.proofs.Storage.{as_many}
-use Rattle.rows.proofs.Search.{found, passed, no_place}
+use Rattle.rows.proofs.Search.{passed, no_place}
 use Rattle.rows.proofs.Rows.find.Goals as goal
-
-pub returns-then-identifier-x : goal.returns-then-identifier-x
-returns-then-identifier-x c =
-    let r = c.args.self.now in
-    let i = c.loop-i.i in
-    (omega (arith, c.loop-i.invariant, found (row_ids r) i (omega (arith, as_many r)) c.args.x (sym c.identifier.ensures ∙ c.if-identifier-x.true)), omega arith)
 
 pub loop-i-preserved : goal.loop-i-preserved
 loop-i-preserved c =

@@ -25,16 +25,16 @@ rows-requires c =
     let p = c.head.ensures.puts in
     let all = sheet_length_is a.threshold a.l a.m (a.l + 1) a.rows.now in
     let held = ap length page.held in
-      omega (
-        arith,
-        page.at_front,
-        held,
-        c.sheet_length-n.ensures,
-        c.if-out-n.false,
-        all,
-        p.ends,
-        puts-length (omega (arith, page.at_front, held, c.sheet_length-n.ensures, c.if-out-n.false, all)) p,
-      )
+    omega (
+      arith,
+      page.at_front,
+      held,
+      c.sheet_length-n.ensures,
+      c.if-out-n.false,
+      all,
+      p.ends,
+      puts-length (omega (arith, page.at_front, held, c.sheet_length-n.ensures, c.if-out-n.false, all)) p,
+    )
 
 pub returns : goal.returns
 returns c =

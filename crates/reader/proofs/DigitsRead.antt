@@ -51,10 +51,7 @@ pub record Digits (xs : List ℕ) (k v : ℕ) : Type 0 where
   pub valued : v ≡ value (take k xs)
   pub bound : v < 10 ^ k
 
-pub no-digits : (xs : List ℕ) → Digits xs 0 0
-no-digits xs = record { few = omega arith; inside = omega arith; digits = tt; valued = refl; bound = omega arith }
-
-pub small : {xs : List ℕ} {k v : ℕ} → Digits xs k v → v < 100000
+small : {xs : List ℕ} {k v : ℕ} → Digits xs k v → v < 100000
 small {xs} {k} {v} d =
     let p : 10 ^ k ≤ 10 ^ 5 = pow-le-pow_right (omega arith) d.few in
     omega (arith, d.bound)

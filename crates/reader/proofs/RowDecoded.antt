@@ -2,40 +2,27 @@
 -- Assumes nothing.
 use mathlib.Core.Path.{◌≡◌, sym, ap, ap₂, ◌∙◌}
 use mathlib.Core.List.{List, [], ◌∷◌, ◌++◌, append-nil}
-use Prim.Native.Nat.{ℕ, ◌+◌, ◌*◌, ◌-◌, ◌<◌, ◌≤◌}
+use Prim.Native.Nat.{ℕ, ◌+◌, ◌*◌, ◌-◌, ◌<◌}
 use native.Mathlib.Omega.{arith}
 use lib.ListN.{length, get_or, take, drop, set, length-append, length-set, drop_of_length-le}
 use lib.Seq.{drop-cons}
 use borrow.Rule.Slice.PartMut.{put_mid, mid_len}
-use Rattle.std.proofs.Common.{rules, Option, Some, None, MatchOption, IsSome}
 use Rattle.std.proofs.lemmas.List.{append_cancel_left}
 use Rattle.shamir.specs.Lists.{All}
 use Rattle.sheets.specs.Text.{decimal, hex}
-use Rattle.sheets.specs.Sheet.{row_line}
 use Rattle.sheets.specs.ReadAs.{IsHexDigit, unhex}
 use Rattle.sheets.proofs.Hex.{unhex-hex}
-use Rattle.reader.specs.Taking.{NumberRead, NoNumber, row_start, StartRead, SomeRow, TakesRow}
+use Rattle.reader.specs.Taking.{NumberRead, row_start, StartRead, SomeRow, TakesRow}
 use Rattle.reader.proofs.FieldRead.{tab-ends}
 use Rattle.reader.proofs.RowLineRead.{start_is, line_is, id_small, count, start_told, values_told, hex_told}
 
--- behind a row's word and a tab there is its identifier, ..
-number_there : (text : List ℕ) (row rest : List ℕ) → text ≡ row_line row ++ rest → drop 4 text ≡ decimal (get_or row 0 0) ++ 9 ∷ (hex (drop 1 row) ++ 10 ∷ rest)
-number_there text row rest f = ap (drop 4) (f ∙ line_is row rest ∙ start_is (get_or row 0 0) _)
-
-pub has-number : (text : List ℕ) (l : ℕ) → SomeRow text l → NoNumber (drop 4 text) → ⊥
-has-number text l (row, rest, g, f) none =
-    none (get_or row 0 0) 9 _ (omega (arith, id_small l row g)) tab-ends (number_there text row rest f)
-
--- .. so that a number which is read there is a row's start with the tab behind it
+-- a number that is read behind a row's word and a tab is, with the tab behind it, the row's start
 module _ (text : List ℕ) (l : ℕ) {id : ℕ} {text₁ : List ℕ} (number : NumberRead (drop 4 text) id text₁) where
   number_told : (m : ℕ) (others : List ℕ) → m < 256 → text ≡ row_start m ++ others → (id ≡ m) × (text₁ ≡ 9 ∷ others)
   number_told m others small f =
       let there : drop 4 text ≡ decimal m ++ 9 ∷ others = ap (drop 4) (f ∙ start_is m others) in
       let same = number.only m 9 others (omega arith) tab-ends there in
       (same, append_cancel_left (decimal id) text₁ (9 ∷ others) (sym number.stands ∙ there ∙ ap (λ x. decimal x ++ 9 ∷ others) (sym same)))
-
-  pub tab-behind : SomeRow text l → 1 ≤ length text₁
-  tab-behind (row, rest, g, f) = omega (arith, ap length (number_told (get_or row 0 0) _ (id_small l row g) (f ∙ line_is row rest)).1)
 
   pub started : SomeRow text l → StartRead text id (drop 1 text₁)
   started (row, rest, g, f) =
@@ -67,11 +54,6 @@ module _ (text : List ℕ) (l : ℕ) {id : ℕ} {text₁ : List ℕ} (start : St
           er ∙ ap (drop 1) told.1,
         );
   }
-
--- what is no None
-pub some_of : {A P : Type 0} (Q : A → Type 0) (o : Option A) → MatchOption o P Q → (P → ⊥) → IsSome o
-some_of Q None h n = absurd (n h)
-some_of Q (Some x) h n = search rules
 
 -- the identifier is written first, and behind it the values come back
 pub id_first : (id : ℕ) (out new : List ℕ) → 0 < length out → put_mid 1 (length (set out 0 id) - 1) (set out 0 id) new ≡ id ∷ new

@@ -34,8 +34,9 @@ fn take_row<'a>(text: &'a [u8], l: usize, out: &mut [u8]) -> &'a [u8]
     requires { SomeRow text.now l × (length out.old ≡ l + 1) }
     ensures { TakesRow text.now l out.new result.now }
 {
-    let (id, text) = read_number(&text[BEFORE_IDENTIFIER..]).unwrap();
-    let (digits, rest) = text[1..].split_at(l * 2);
+    // The line is right: its word, its tabs and its line feed are passed over unread.
+    let (id, values) = read_number(&text[BEFORE_IDENTIFIER..]).unwrap();
+    let (digits, rest) = values[1..].split_at(l * 2);
     out[0] = id as u8;
     take_hex(digits, &mut out[1..]);
     &rest[1..]

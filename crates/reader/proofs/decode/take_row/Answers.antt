@@ -1,29 +1,21 @@
 -- `take_row` meets its contract.
-use mathlib.Core.Path.{◌≡◌, sym, ap, ◌∙◌}
-use mathlib.Core.List.{List}
-use Prim.Native.Nat.{ℕ, ◌*◌, ◌-◌}
+use mathlib.Core.Path.{sym, ap, ◌∙◌}
+use Prim.Native.Nat.{◌*◌}
 use native.Mathlib.Omega.{arith}
-use lib.ListN.{length, take, drop, length-drop}
-use lib.Seq.{take_all}
+use lib.ListN.{length, take, drop}
 use Rattle.std.proofs.lemmas.Option.{MatchOption-at_some}
 use Rattle.sheets.specs.ReadAs.{unhex}
 use Rattle.reader.specs.Taking.{NumberRead, StartRead}
-use Rattle.reader.proofs.RowDecoded.{has-number, tab-behind, started, line-inside, values_hex, row_taken, some_of, id_first, lent}
+use Rattle.reader.proofs.WordRead.{behind}
+use Rattle.reader.proofs.RowDecoded.{started, line-inside, values_hex, row_taken, id_first, lent}
 use Rattle.reader.proofs.decode.take_row.Goals as goal
 use Rattle.reader.proofs.decode.take_row.Goals.{After-unwrap-id}
-
-behind : (k : ℕ) (xs : List ℕ) → take (length xs - k) (drop k xs) ≡ drop k xs
-behind k xs = take_all (length xs - k) (drop k xs) (omega (arith, length-drop k xs))
 
 number : (c : After-unwrap-id) → NumberRead (drop 4 c.args.text.now) c.unwrap-id.result.0 c.unwrap-id.result.1.now
 number c = rw (sym (behind 4 c.args.text.now)) (MatchOption-at_some _ _ c.unwrap-id.result c.unwrap-id.ensures c.read_number.ensures)
 
 start : (c : After-unwrap-id) → StartRead c.args.text.now c.unwrap-id.result.0 (drop 1 c.unwrap-id.result.1.now)
 start c = started c.args.text.now c.args.l (number c) c.requires.0
-
-pub unwrap-id-requires : goal.unwrap-id-requires
-unwrap-id-requires c =
-    some_of _ c.read_number.result c.read_number.ensures (λ none. has-number c.args.text.now c.args.l c.requires.0 (rw (sym (behind 4 c.args.text.now)) none))
 
 pub split_at-requires : goal.split_at-requires
 split_at-requires c =

@@ -5,18 +5,19 @@ use mathlib.Core.Bool.{true, false}
 use mathlib.Core.List.{List, [], ◌∷◌, ◌++◌}
 use Prim.Native.Nat.{ℕ, zero, suc, min, ◌+◌, ◌*◌, ◌-◌, ◌^◌, ◌<◌, ◌≤◌}
 use native.Mathlib.Decide.{dec_lt}
-use native.Mathlib.Nat.{pow-le-pow_right}
+use native.Mathlib.Nat.{pow-suc, pow-le-pow_right}
+use native.Mathlib.Numerals.{add-one}
 use native.Mathlib.Omega.{arith}
 use lib.ListN.{length, get_or, take, drop, length-append, take-append-drop, get_or-append}
-use lib.Seq.{take_at, length-take-le, get_or-take}
+use lib.Seq.{take-suc, take_at, length-take-le, get_or-take}
 use Rattle.shamir.specs.Lists.{All}
-use Rattle.shamir.proofs.Lists.{all_in}
+use Rattle.shamir.proofs.Lists.{all_append, all_in}
 use Rattle.sheets.specs.Text.{decimal}
 use Rattle.sheets.specs.ReadAs.{IsDigit}
 use Rattle.reader.specs.Taking.{NumberRead, NoNumber}
 use Rattle.sheets.specs.ReadAs.{value_from, value}
 use Rattle.sheets.proofs.Decimal.{decimal-short}
-use Rattle.sheets.proofs.DecimalValue.{decimal-digits, value-decimal}
+use Rattle.sheets.proofs.DecimalValue.{decimal-digits, value-append, value-decimal}
 
 -- the two answers of a test are apart
 pub yes-no : {P : Type 0} → true ≡ false → P
@@ -50,10 +51,22 @@ pub record Digits (xs : List ℕ) (k v : ℕ) : Type 0 where
   pub valued : v ≡ value (take k xs)
   pub bound : v < 10 ^ k
 
-pub small : {xs : List ℕ} {k v : ℕ} → Digits xs k v → v < 100000
+small : {xs : List ℕ} {k v : ℕ} → Digits xs k v → v < 100000
 small {xs} {k} {v} d =
     let p : 10 ^ k ≤ 10 ^ 5 = pow-le-pow_right (omega arith) d.few in
     omega (arith, d.bound)
+
+one_more : {xs : List ℕ} {k v : ℕ} (c : ℕ) → Digits xs k v → k < 5 → k < length xs → c ≡ get_or xs k 0 → IsDigit c → Digits xs (k + 1) (v * 10 + (c - 48))
+one_more {xs} {k} {v} c d few more is digit =
+    let step : take (k + 1) xs ≡ take k xs ++ (c ∷ []) = ap (λ n. take n xs) (add-one k) ∙ take-suc xs k 0 more ∙ ap (λ x. take k xs ++ (x ∷ [])) (sym is) in
+    let power : 10 ^ (k + 1) ≡ 10 ^ k * 10 = ap (10 ^◌) (add-one k) ∙ pow-suc 10 k in
+    record {
+      few = omega arith;
+      inside = omega arith;
+      digits = rw step (all_append IsDigit (take k xs) (c ∷ []) d.digits (digit, tt));
+      valued = ap (λ x. x * 10 + (c - 48)) d.valued ∙ sym (ap value step ∙ value-append 0 (take k xs) (c ∷ []));
+      bound = omega (arith, d.bound, power, digit.0, digit.1);
+    }
 
 -- digits do not go beyond a character that is none
 no_further : (k : ℕ) (ds : List ℕ) (c : ℕ) (rest : List ℕ) → (IsDigit c → ⊥) → All IsDigit (take k (ds ++ c ∷ rest)) → k ≤ length ds
@@ -61,32 +74,24 @@ no_further zero ds c rest n h = omega arith
 no_further (suc k) [] c rest n h = absurd (n h.0)
 no_further (suc k) (d ∷ ds) c rest n h = omega (arith, no_further k ds c rest n h.1)
 
--- a property of each element
-all_each : (P : ℕ → Type 0) (xs : List ℕ) → ((i : ℕ) → i < length xs → P (get_or xs i 0)) → All P xs
-all_each P [] h = tt
-all_each P (x ∷ xs) h = (h 0 (omega arith), all_each P xs (λ i l. h (suc i) (omega arith)))
-
--- the first k of a text, of which at most five were looked at, are the digits that it begins with, with the value v
+-- the first k of a text, of which at most five are looked at, are the digits that it begins with, with the value v
 pub record Counted (text : List ℕ) (k v : ℕ) : Type 0 where
   pub digits : Digits text k v
   pub stop : k < 5 → k < length text → IsDigit (get_or text k 0) → ⊥
 
-pub counted : (text : List ℕ) (n k v : ℕ) → n ≡ min (length text) 5 → k ≤ length (take n text)
-    → ((i : ℕ) → i < k → IsDigit (get_or (take n text) i 0)) → (k < length (take n text) → IsDigit (get_or (take n text) k 0) → ⊥)
-    → v ≡ value (take k text) → v < 10 ^ length (take k text) → Counted text k v
-counted text n k v least inside digits stop is bound =
-    let long : length (take n text) ≡ n = length-take-le n text (omega arith) in
-    let count : length (take k text) ≡ k = length-take-le k text (omega arith) in
-    record {
-      digits = record {
-        few = omega arith;
-        inside = omega arith;
-        digits = all_each IsDigit (take k text) (λ i l. subst IsDigit (get_or-take n text i 0 (omega arith) ∙ sym (get_or-take k text i 0 (omega arith))) (digits i (omega arith)));
-        valued = is;
-        bound = subst (λ j. v < 10 ^ j) count bound;
-      };
-      stop = λ few more d. stop (omega arith) (subst IsDigit (sym (get_or-take n text k 0 (omega arith))) d);
-    }
+-- of these, n are looked at
+module _ (text : List ℕ) (n : ℕ) (least : n ≡ min (length text) 5) {k v : ℕ} (d : Digits text k v) where
+  long : length (take n text) ≡ n
+  long = length-take-le n text (omega arith)
+
+  pub counts : (i : ℕ) → k ≡ i → i < length (take n text) → IsDigit (get_or (take n text) i 0) → Digits text (k + 1) (v * 10 + (get_or (take n text) i 0 - 48))
+  counts i is more digit = one_more _ d (omega (arith, long)) (omega (arith, long)) (get_or-take n text i 0 (omega (arith, long)) ∙ ap (λ j. get_or text j 0) (sym is)) digit
+
+  pub counted : (i : ℕ) → k ≡ i → (i < length (take n text) → IsDigit (get_or (take n text) i 0) → ⊥) → Counted text k v
+  counted i is stop = record {
+    digits = d;
+    stop = λ few more digit. stop (omega (arith, long)) (subst IsDigit (ap (λ j. get_or text j 0) is ∙ sym (get_or-take n text i 0 (omega arith))) digit);
+  }
 
 -- what is read once no further digit follows, or five were read
 module _ (text : List ℕ) {k v : ℕ} (c : Counted text k v) where

@@ -7,20 +7,35 @@ use native.Mathlib.Omega.{arith}
 use lib.ListN.{length, get_or, take, drop, set, length-append, length-set, drop_of_length-le}
 use lib.Seq.{drop-cons}
 use borrow.Rule.Slice.PartMut.{put_mid, mid_len}
-use Rattle.std.proofs.Common.{rules, Option, Some, None, MatchOption, IsSome}
+use Rattle.std.proofs.lemmas.List.{append_cancel_left}
 use Rattle.shamir.specs.Lists.{All}
-use Rattle.sheets.specs.Text.{hex}
+use Rattle.sheets.specs.Text.{decimal, hex}
 use Rattle.sheets.specs.ReadAs.{IsHexDigit, unhex}
 use Rattle.sheets.proofs.Hex.{unhex-hex}
-use Rattle.reader.specs.Taking.{StartRead, NoStart, SomeRow, TakesRow}
-use Rattle.reader.proofs.RowLineRead.{line_is, id_small, count, start_told, values_told, hex_told}
+use Rattle.reader.specs.Taking.{NumberRead, row_start, StartRead, SomeRow, TakesRow}
+use Rattle.reader.proofs.FieldRead.{tab-ends}
+use Rattle.reader.proofs.RowLineRead.{start_is, line_is, id_small, count, start_told, values_told, hex_told}
 
--- a row's line has a start, ..
-pub has-start : (text : List ℕ) (l : ℕ) → SomeRow text l → NoStart text → ⊥
-has-start text l (row, rest, g, f) none = none (get_or row 0 0) _ g.nonzero (omega (arith, id_small l row g)) (f ∙ line_is row rest)
+-- a number that is read behind a row's word and a tab is, with the tab behind it, the row's start
+module _ (text : List ℕ) (l : ℕ) {id : ℕ} {text₁ : List ℕ} (number : NumberRead (drop 4 text) id text₁) where
+  number_told : (m : ℕ) (others : List ℕ) → m < 256 → text ≡ row_start m ++ others → (id ≡ m) × (text₁ ≡ 9 ∷ others)
+  number_told m others small f =
+      let there : drop 4 text ≡ decimal m ++ 9 ∷ others = ap (drop 4) (f ∙ start_is m others) in
+      let same = number.only m 9 others (omega arith) tab-ends there in
+      (same, append_cancel_left (decimal id) text₁ (9 ∷ others) (sym number.stands ∙ there ∙ ap (λ x. decimal x ++ 9 ∷ others) (sym same)))
+
+  pub started : SomeRow text l → StartRead text id (drop 1 text₁)
+  started (row, rest, g, f) =
+      let told = number_told (get_or row 0 0) _ (id_small l row g) (f ∙ line_is row rest) in
+      record {
+        low = rw told.0 g.nonzero;
+        high = omega (arith, told.0, id_small l row g);
+        stands = f ∙ line_is row rest ∙ ap₂ (λ x y. row_start x ++ y) (sym told.0) (sym (ap (drop 1) told.1));
+        only = λ m others low high e. (number_told m others (omega arith) e).0;
+      }
 
 module _ (text : List ℕ) (l : ℕ) {id : ℕ} {text₁ : List ℕ} (start : StartRead text id text₁) where
-  -- .. and behind it its values and a line feed
+  -- behind the start there are a row's values and a line feed
   pub line-inside : SomeRow text l → l * 2 < length text₁
   line-inside (row, rest, g, f) =
       omega (arith, ap length (start_told text l start row rest g f).1, length-append (hex (drop 1 row)) (10 ∷ rest), count l row g)
@@ -39,11 +54,6 @@ module _ (text : List ℕ) (l : ℕ) {id : ℕ} {text₁ : List ℕ} (start : St
           er ∙ ap (drop 1) told.1,
         );
   }
-
--- what is no None
-pub some_of : {A P : Type 0} (Q : A → Type 0) (o : Option A) → MatchOption o P Q → (P → ⊥) → IsSome o
-some_of Q None h n = absurd (n h)
-some_of Q (Some x) h n = search rules
 
 -- the identifier is written first, and behind it the values come back
 pub id_first : (id : ℕ) (out new : List ℕ) → 0 < length out → put_mid 1 (length (set out 0 id) - 1) (set out 0 id) new ≡ id ∷ new

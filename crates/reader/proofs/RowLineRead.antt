@@ -23,7 +23,7 @@ use Rattle.reader.proofs.FieldRead.{tab-ends, field_told}
 pieces : (d h rest : List ℕ) → (d ++ 9 ∷ (h ++ (10 ∷ []))) ++ rest ≡ d ++ 9 ∷ (h ++ 10 ∷ rest)
 pieces d h rest = append_assoc d (9 ∷ (h ++ (10 ∷ []))) rest ∙ ap (λ x. d ++ 9 ∷ x) (append_assoc h (10 ∷ []) rest)
 
-start_is : (id : ℕ) (rest : List ℕ) → row_start id ++ rest ≡ row_word ++ 9 ∷ (decimal id ++ 9 ∷ rest)
+pub start_is : (id : ℕ) (rest : List ℕ) → row_start id ++ rest ≡ row_word ++ 9 ∷ (decimal id ++ 9 ∷ rest)
 start_is id rest = ap (λ x. row_word ++ 9 ∷ x) (append_assoc (decimal id) (9 ∷ []) rest)
 
 -- a row's line is its start, its values and a line feed

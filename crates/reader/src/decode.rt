@@ -5,7 +5,7 @@ ghost use Rattle.rows.specs.Lengths.{four_bytes};
 ghost use Rattle.sheets.specs.ReadAs.{IsHexDigit, unhex_digit, unhex};
 ghost use Rattle.reader.specs.Taking.{SomeRow, TakesRow, SomeRows, TakesRows};
 
-use crate::lines::read_start;
+use crate::taking::read_number;
 use sheets::Head;
 
 // The value of a digit of hex: the letters follow on the digits 9 further.
@@ -26,13 +26,17 @@ fn take_hex(digits: &[u8], out: &mut [u8])
     }
 }
 
+// A row's word and a tab.
+const BEFORE_IDENTIFIER: usize = 4;
+
 // The row whose line begins a text, one value more than the output has room for behind its identifier. Gives the text behind the line.
 fn take_row<'a>(text: &'a [u8], l: usize, out: &mut [u8]) -> &'a [u8]
     requires { SomeRow text.now l × (length out.old ≡ l + 1) }
     ensures { TakesRow text.now l out.new result.now }
 {
-    let (id, text) = read_start(text).unwrap();
-    let (digits, rest) = text.split_at(l * 2);
+    // The line is right: its word, its tabs and its line feed are passed over unread.
+    let (id, values) = read_number(&text[BEFORE_IDENTIFIER..]).unwrap();
+    let (digits, rest) = values[1..].split_at(l * 2);
     out[0] = id as u8;
     take_hex(digits, &mut out[1..]);
     &rest[1..]

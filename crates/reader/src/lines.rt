@@ -46,7 +46,7 @@ pub fn read_head(text: &[u8]) -> Option<(Head, &[u8])>
 }
 
 // The identifier of a row, where the text begins with a row's line up to its values.
-pub fn read_start(text: &[u8]) -> Option<(usize, &[u8])>
+fn read_start(text: &[u8]) -> Option<(usize, &[u8])>
     ensures { MatchOption result (NoStart text.now) (λ r. StartRead text.now r.0 r.1.now) }
 {
     let text = text.strip_prefix(b"row")?;

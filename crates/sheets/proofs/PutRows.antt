@@ -1,6 +1,6 @@
 -- The lines of rows of one length, row by row.
 -- Assumes nothing.
-use mathlib.Core.Path.{◌≡◌, sym, ap, ap₂, ◌∙◌, subst}
+use mathlib.Core.Path.{◌≡◌, sym, ap, ◌∙◌, subst}
 use mathlib.Core.List.{List, ◌++◌, append_assoc, append-nil}
 use Prim.Native.Nat.{ℕ, zero, suc, ◌+◌, ◌*◌, ◌-◌, ◌^◌, ◌<◌, ◌≤◌}
 use native.Mathlib.Nat.{mul-le-mul_right}
@@ -48,17 +48,10 @@ lines_grow (suc i) k w s =
     let more : suc i + k ≡ suc (i + k) = omega arith in
     rw more (omega (arith, length-append (row_line (take w s)) (lines_to i w (drop w s)), length-append (row_line (take w s)) (lines_to (i + k) w (drop w s)), lines_grow i k w (drop w s)))
 
--- the row as it is lent
-pub lent_row : (i w p : ℕ) (s : List ℕ) → p ≡ i * w → take (p + w - p) (drop p s) ≡ row_at i w s
-lent_row i w p s e = let all : p + w - p ≡ w = omega arith in ap₂ (λ k a. take k (drop a s)) all e
-
 module _ (m w : ℕ) (s : List ℕ) (i : ℕ) (more : i < m) where
   -- the next row lies in the storage, ..
   pub row_inside : m * w ≤ length s → i * w + w ≤ length s
   row_inside h = omega (arith, mul-le-mul_right w more)
-
-  pub row-some : m * w ≤ length s → 0 < w → 0 < length (row_at i w s)
-  row-some h some = omega (arith, length-take-le w (drop (i * w) s) (omega (arith, length-drop (i * w) s, row_inside h)))
 
   -- .. its line in the output, ..
   pub row_fits : (at end : ℕ) (out : List ℕ) → at + length (lines_to m w s) ≤ length out → end ≡ at + length (lines_to i w s)

@@ -1,12 +1,12 @@
 -- The writer from the checks of rows and what is done with accepted rows.
 -- Assumes nothing.
-use mathlib.Core.Path.{◌≡◌, refl, sym, ap, ap₂, ◌∙◌, subst}
+use mathlib.Core.Path.{◌≡◌, sym, ap, ap₂, ◌∙◌, subst}
 use mathlib.Core.List.{List, ◌++◌}
-use Prim.Native.Nat.{ℕ, ◌+◌, ◌*◌, ◌/◌, ◌<◌, ◌≤◌}
+use Prim.Native.Nat.{ℕ, ◌+◌, ◌*◌, ◌/◌, ◌≤◌}
 use native.Mathlib.Nat.{zero-add}
 use native.Mathlib.Omega.{arith}
 use lib.ListN.{length, drop, replicate}
-use borrow.Author.Tests.{lt-ltb, le-ltb}
+use borrow.Author.Tests.{le-ltb}
 use Rattle.answer.specs.Outcome.{Outcome, done, refused}
 use Rattle.rows.specs.Storage.{cut}
 use Rattle.rows.specs.Lengths.{lengths_of}
@@ -57,24 +57,14 @@ module _ (t m l : ℕ) (s out : List ℕ) where
   abbrev text : List ℕ
   text = sheet t l (cut (replicate m (l + 1)) s)
 
-  pub too_low : t < 2 → WritesAccepted t m l s out (refused 4 0 0) out
-  too_low h = record { answers = sym (simp (lt-ltb t 2 h)); leaves = refl }
-
-  module _ (low : 2 ≤ t) where
-    pub too_high : max_shares < t → WritesAccepted t m l s out (refused 1 0 0) out
-    too_high h = record { answers = sym (simp (le-ltb t 2 low, lt-ltb max_shares t h)); leaves = refl }
-
-    module _ (high : t ≤ max_shares) {n : ℕ} (counted : n ≡ length text) where
-      pub no_room : length out < n → WritesAccepted t m l s out (refused 12 0 0) out
-      no_room h = record { answers = sym (simp (le-ltb t 2 low, le-ltb max_shares t high, lt-ltb (length out) (length text) (omega arith))); leaves = refl }
-
-      -- the first line and then the others, which the output then has
-      pub written : {q r e : ℕ} {first mid left new : List ℕ} → n ≤ length out → first ≡ out → q ≡ 0 → Puts (head_line t m l) q first r mid → Puts (lines_to m (l + 1) s) r mid e left
-          → new ≡ left → WritesAccepted t m l s out (done n) new
-      written {q} {r} {e} {first} {mid} {left} {new} h same front p q' is =
-          let head = subst (λ k. Puts (head_line t m l) k out r mid) front (subst (λ o. Puts (head_line t m l) q o r mid) same p) in
-          let put = subst (λ x. Puts x 0 out e left) (sym (sheet_is t l m (l + 1) s)) (puts_then (omega arith) head q') in
-          record {
-            answers = ap done counted ∙ sym (simp (le-ltb t 2 low, le-ltb max_shares t high, le-ltb (length out) (length text) (omega arith)));
-            leaves = is ∙ put.leaves ∙ ap (λ k. text ++ drop k out) (zero-add (length text) ∙ sym counted);
-          }
+  module _ (low : 2 ≤ t) (high : t ≤ max_shares) {n : ℕ} (counted : n ≡ length text) where
+    -- the first line and then the others, which the output then has
+    pub written : {q r e : ℕ} {first mid left new : List ℕ} → n ≤ length out → first ≡ out → q ≡ 0 → Puts (head_line t m l) q first r mid → Puts (lines_to m (l + 1) s) r mid e left
+        → new ≡ left → WritesAccepted t m l s out (done n) new
+    written {q} {r} {e} {first} {mid} {left} {new} h same front p q' is =
+        let head = subst (λ k. Puts (head_line t m l) k out r mid) front (subst (λ o. Puts (head_line t m l) q o r mid) same p) in
+        let put = subst (λ x. Puts x 0 out e left) (sym (sheet_is t l m (l + 1) s)) (puts_then (omega arith) head q') in
+        record {
+          answers = ap done counted ∙ sym (simp (le-ltb t 2 low, le-ltb max_shares t high, le-ltb (length out) (length text) (omega arith)));
+          leaves = is ∙ put.leaves ∙ ap (λ k. text ++ drop k out) (zero-add (length text) ∙ sym counted);
+        }

@@ -9,16 +9,16 @@ ghost use Rattle.sheets.specs.Writing.{Puts};
 use crate::head::Head;
 use rows::Rows;
 
-pub const TAB: u8 = 9;
+pub const TAB: u8 = b'\t';
 
-pub const LINE_FEED: u8 = 10;
+pub const LINE_FEED: u8 = b'\n';
 
 // The digit of a number under 10.
 fn digit(d: usize) -> u8
     requires { d < 10 }
     ensures { result ≡ digitOf d }
 {
-    48 + (d as u8)
+    b'0' + (d as u8)
 }
 
 // The lower-case digit of a number under 16: those from 10 on stand 39 further than the others.
@@ -26,7 +26,7 @@ fn hex_digit(d: u8) -> u8
     requires { d < 16 }
     ensures { result ≡ hex_digit d }
 {
-    48 + d + (d + 6) / 16 * 39
+    b'0' + d + (d + 6) / 16 * 39
 }
 
 // Bytes in hex, two digits each.

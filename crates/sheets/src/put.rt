@@ -4,7 +4,7 @@ ghost use Rattle.std.specs.Prelude.{◌≡◌, [], ◌∷◌, ◌+◌, ◌*◌, 
 ghost use Rattle.rows.specs.Storage.{cut};
 ghost use Rattle.sheets.specs.Text.{tab, digit as digitOf, decimal, hex_digit, hex};
 ghost use Rattle.sheets.specs.Sheet.{head_line, row_line, row_lines};
-ghost use Rattle.sheets.specs.Writing.{Puts};
+ghost use Rattle.sheets.specs.Writing.{HasRoom, Adds};
 
 use crate::head::Head;
 use rows::Rows;
@@ -57,18 +57,16 @@ impl<'a> Page<'a> {
     }
 
     fn byte(&mut self, b: u8)
-        requires { self.old.end < length self.old.out.now }
-        ensures same { self.new.out.ghost_name ≡ self.old.out.ghost_name }
-        ensures puts { Puts (b ∷ []) self.old.end self.old.out.now self.new.end self.new.out.now }
+        requires { HasRoom (b ∷ []) self.old }
+        ensures { Adds (b ∷ []) self.old self.new }
     {
         self.out[self.end] = b;
         self.end += 1;
     }
 
     fn word(&mut self, word: &[u8])
-        requires { self.old.end + length word.now ≤ length self.old.out.now }
-        ensures same { self.new.out.ghost_name ≡ self.old.out.ghost_name }
-        ensures puts { Puts word.now self.old.end self.old.out.now self.new.end self.new.out.now }
+        requires { HasRoom word.now self.old }
+        ensures { Adds word.now self.old self.new }
     {
         let next = self.end + word.len();
         self.out[self.end..next].copy_from_slice(word);
@@ -77,9 +75,8 @@ impl<'a> Page<'a> {
 
     // A number: its tenth first, where that is not 0, then its last digit.
     fn decimal(&mut self, n: usize)
-        requires { self.old.end + length (decimal n) ≤ length self.old.out.now }
-        ensures same { self.new.out.ghost_name ≡ self.old.out.ghost_name }
-        ensures puts { Puts (decimal n) self.old.end self.old.out.now self.new.end self.new.out.now }
+        requires { HasRoom (decimal n) self.old }
+        ensures { Adds (decimal n) self.old self.new }
     {
         if n < 10 {
             return self.byte(digit(n));
@@ -90,18 +87,16 @@ impl<'a> Page<'a> {
 
     // A tab, and a number: a field of a line.
     fn number(&mut self, n: usize)
-        requires { self.old.end + length (decimal n) + 1 ≤ length self.old.out.now }
-        ensures same { self.new.out.ghost_name ≡ self.old.out.ghost_name }
-        ensures puts { Puts (tab ∷ decimal n) self.old.end self.old.out.now self.new.end self.new.out.now }
+        requires { HasRoom (tab ∷ decimal n) self.old }
+        ensures { Adds (tab ∷ decimal n) self.old self.new }
     {
         self.byte(TAB);
         self.decimal(n);
     }
 
     fn hex(&mut self, values: &[u8])
-        requires { self.old.end + length values.now * 2 ≤ length self.old.out.now }
-        ensures same { self.new.out.ghost_name ≡ self.old.out.ghost_name }
-        ensures puts { Puts (hex values.now) self.old.end self.old.out.now self.new.end self.new.out.now }
+        requires { HasRoom (hex values.now) self.old }
+        ensures { Adds (hex values.now) self.old self.new }
     {
         let next = self.end + values.len() * 2;
         write_hex(&mut self.out[self.end..next], values);
@@ -110,9 +105,8 @@ impl<'a> Page<'a> {
 
     // A row's line.
     fn row(&mut self, row: &[u8])
-        requires { (0 < length row.now) × (self.old.end + length (row_line row.now) ≤ length self.old.out.now) }
-        ensures same { self.new.out.ghost_name ≡ self.old.out.ghost_name }
-        ensures puts { Puts (row_line row.now) self.old.end self.old.out.now self.new.end self.new.out.now }
+        requires { (0 < length row.now) × HasRoom (row_line row.now) self.old }
+        ensures { Adds (row_line row.now) self.old self.new }
     {
         self.word(b"row");
         self.number(row[0] as usize);
@@ -123,9 +117,8 @@ impl<'a> Page<'a> {
 
     // The lines of rows.
     pub fn rows(&mut self, rows: &Rows)
-        requires { self.old.end + length (row_lines (cut (replicate rows.now.count rows.now.width) rows.now.bytes.now)) ≤ length self.old.out.now }
-        ensures same { self.new.out.ghost_name ≡ self.old.out.ghost_name }
-        ensures puts { Puts (row_lines (cut (replicate rows.now.count rows.now.width) rows.now.bytes.now)) self.old.end self.old.out.now self.new.end self.new.out.now }
+        requires { HasRoom (row_lines (cut (replicate rows.now.count rows.now.width) rows.now.bytes.now)) self.old }
+        ensures { Adds (row_lines (cut (replicate rows.now.count rows.now.width) rows.now.bytes.now)) self.old self.new }
     {
         for row in rows.bytes[..rows.count * rows.width].chunks_exact(rows.width) {
             self.row(row);
@@ -134,9 +127,8 @@ impl<'a> Page<'a> {
 
     // The first line.
     pub fn head(&mut self, head: &Head)
-        requires { self.old.end + length (head_line head.now.threshold head.now.rows head.now.values) ≤ length self.old.out.now }
-        ensures same { self.new.out.ghost_name ≡ self.old.out.ghost_name }
-        ensures puts { Puts (head_line head.now.threshold head.now.rows head.now.values) self.old.end self.old.out.now self.new.end self.new.out.now }
+        requires { HasRoom (head_line head.now.threshold head.now.rows head.now.values) self.old }
+        ensures { Adds (head_line head.now.threshold head.now.rows head.now.values) self.old self.new }
     {
         self.word(b"seal");
         self.number(head.threshold);

@@ -89,6 +89,13 @@ sheet_is t l m w s = ap (λ k. head_line t k l ++ lines_to m w s) (length_cut (r
 pub sheet_length_is : (t l m w : ℕ) (s : List ℕ) → length (sheet t l (cut (replicate m w) s)) ≡ length (head_line t m l) + length (lines_to m w s)
 sheet_length_is t l m w s = ap length (sheet_is t l m w s) ∙ length-append (head_line t m l) (lines_to m w s)
 
+-- .. of rows of w elements, of which all but the first are values
+pub rows_length_is : (t m w : ℕ) (s : List ℕ) → 0 < w
+    → length (sheet t (w - 1) (cut (replicate m (w - 1 + 1)) s)) ≡ length (head_line t m (w - 1)) + length (lines_to m w s)
+rows_length_is t m w s some =
+    let wide : w - 1 + 1 ≡ w = omega arith in
+    ap (λ k. length (sheet t (w - 1) (cut (replicate m k) s))) wide ∙ sheet_length_is t (w - 1) m w s
+
 -- .. is not long where the numbers are small
 lines-short : (m l : ℕ) (s : List ℕ) → l ≤ max_secret → m * (l + 1) ≤ length s → Below 256 s → length (lines_to m (l + 1) s) ≤ m * (2 * max_secret + 9)
 lines-short zero l s h g b = omega arith

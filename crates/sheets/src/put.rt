@@ -30,6 +30,7 @@ fn hex_digit(d: u8) -> u8
 }
 
 // Bytes in hex, two digits each.
+// By index: of a slice that is lent in pairs, as by `as_chunks_mut`, std does not say what it ends as.
 fn write_hex(out: &mut [u8], values: &[u8])
     requires { length out.old ≡ length values.now * 2 }
     ensures { out.new ≡ hex values.now }
@@ -41,6 +42,7 @@ fn write_hex(out: &mut [u8], values: &[u8])
 }
 
 // An output that is written up to a place.
+// A slice and a place in it: the C interface lends the output, and the library has no heap.
 #[derive(Drop)]
 pub struct Page<'a> {
     out: &'a mut [u8],

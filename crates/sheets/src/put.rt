@@ -1,6 +1,6 @@
 // A text is put into an output piece by piece, each behind the one before. A row's values are secret: their digits are made without a
 // branch or an index.
-ghost use Rattle.std.specs.Prelude.{◌≡◌, [], ◌∷◌, ◌+◌, ◌*◌, ◌<◌, ◌≤◌, length, replicate};
+ghost use Rattle.std.specs.Prelude.{◌≡◌, [], ◌∷◌, ◌*◌, ◌<◌, length, replicate};
 ghost use Rattle.rows.specs.Storage.{cut};
 ghost use Rattle.sheets.specs.Text.{tab, digit as digitOf, decimal, hex_digit, hex};
 ghost use Rattle.sheets.specs.Sheet.{head_line, row_line, row_lines};

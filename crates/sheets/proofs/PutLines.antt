@@ -9,6 +9,7 @@ use lib.Seq.{take_all}
 use Rattle.sheets.specs.Text.{tab, line_feed, decimal, hex}
 use Rattle.sheets.specs.Sheet.{seal_word, row_word, head_line, row_line}
 use Rattle.sheets.specs.Writing.{Puts}
+use Rattle.sheets.proofs.Hex.{length-hex}
 use Rattle.sheets.proofs.TextLength.{length-row_line}
 use Rattle.sheets.proofs.Writing.{puts_then, puts-length}
 
@@ -39,7 +40,7 @@ row_put row at out {e = e} {left = left} {values = values} inside are word numbe
 -- there is room for its values
 pub row_room : (row : List ℕ) (at : ℕ) (out : List ℕ) {n₁ n₂ n₃ : ℕ} {mid₁ mid₂ mid₃ : List ℕ} → 0 < length row → at + length (row_line row) ≤ length out
     → Puts row_word at out n₁ mid₁ → Puts (tab ∷ decimal (get_or row 0 0)) n₁ mid₁ n₂ mid₂ → Puts (tab ∷ []) n₂ mid₂ n₃ mid₃
-    → n₃ + length (take (length row - 1) (drop 1 row)) * 2 ≤ length mid₃
+    → n₃ + length (hex (take (length row - 1) (drop 1 row))) ≤ length mid₃
 row_room row at out some room word number parted =
     let start = row_word ++ tab ∷ decimal (get_or row 0 0) in
     let inside : at ≤ length out = omega arith in
@@ -47,7 +48,7 @@ row_room row at out some room word number parted =
     let long = row-length row some in
     let count : length (start ++ (tab ∷ [])) ≡ length (decimal (get_or row 0 0)) + 5 = omega (arith, length-append start (tab ∷ []), length-append row_word (tab ∷ decimal (get_or row 0 0))) in
     let fits : at + length (start ++ (tab ∷ [])) ≤ length out = omega (arith, long) in
-    omega (arith, all.ends, puts-length fits all, count, long, length-drop 1 row, ap length (take_all (length row - 1) (drop 1 row) (omega (arith, length-drop 1 row))))
+    omega (arith, all.ends, puts-length fits all, count, long, length-hex (take (length row - 1) (drop 1 row)), length-drop 1 row, ap length (take_all (length row - 1) (drop 1 row) (omega (arith, length-drop 1 row))))
 
 head_pieces : (w a b c : List ℕ) → (((w ++ a) ++ b) ++ c) ++ (line_feed ∷ []) ≡ w ++ (a ++ (b ++ (c ++ (line_feed ∷ []))))
 head_pieces w a b c = simp append_assoc

@@ -1,6 +1,6 @@
 -- The lines of rows of one length, row by row.
 -- Assumes nothing.
-use mathlib.Core.Path.{◌≡◌, sym, ap, ap₂, ◌∙◌, subst}
+use mathlib.Core.Path.{◌≡◌, sym, ap, ◌∙◌, subst}
 use mathlib.Core.List.{List, ◌++◌, append_assoc, append-nil}
 use Prim.Native.Nat.{ℕ, zero, suc, ◌+◌, ◌*◌, ◌-◌, ◌^◌, ◌<◌, ◌≤◌}
 use native.Mathlib.Nat.{mul-le-mul_right}
@@ -48,17 +48,10 @@ lines_grow (suc i) k w s =
     let more : suc i + k ≡ suc (i + k) = omega arith in
     rw more (omega (arith, length-append (row_line (take w s)) (lines_to i w (drop w s)), length-append (row_line (take w s)) (lines_to (i + k) w (drop w s)), lines_grow i k w (drop w s)))
 
--- the row as it is lent
-pub lent_row : (i w p : ℕ) (s : List ℕ) → p ≡ i * w → take (p + w - p) (drop p s) ≡ row_at i w s
-lent_row i w p s e = let all : p + w - p ≡ w = omega arith in ap₂ (λ k a. take k (drop a s)) all e
-
 module _ (m w : ℕ) (s : List ℕ) (i : ℕ) (more : i < m) where
   -- the next row lies in the storage, ..
   pub row_inside : m * w ≤ length s → i * w + w ≤ length s
   row_inside h = omega (arith, mul-le-mul_right w more)
-
-  pub row-some : m * w ≤ length s → 0 < w → 0 < length (row_at i w s)
-  row-some h some = omega (arith, length-take-le w (drop (i * w) s) (omega (arith, length-drop (i * w) s, row_inside h)))
 
   -- .. its line in the output, ..
   pub row_fits : (at end : ℕ) (out : List ℕ) → at + length (lines_to m w s) ≤ length out → end ≡ at + length (lines_to i w s)
@@ -95,6 +88,13 @@ sheet_is t l m w s = ap (λ k. head_line t k l ++ lines_to m w s) (length_cut (r
 
 pub sheet_length_is : (t l m w : ℕ) (s : List ℕ) → length (sheet t l (cut (replicate m w) s)) ≡ length (head_line t m l) + length (lines_to m w s)
 sheet_length_is t l m w s = ap length (sheet_is t l m w s) ∙ length-append (head_line t m l) (lines_to m w s)
+
+-- .. of rows of w elements, of which all but the first are values
+pub rows_length_is : (t m w : ℕ) (s : List ℕ) → 0 < w
+    → length (sheet t (w - 1) (cut (replicate m (w - 1 + 1)) s)) ≡ length (head_line t m (w - 1)) + length (lines_to m w s)
+rows_length_is t m w s some =
+    let wide : w - 1 + 1 ≡ w = omega arith in
+    ap (λ k. length (sheet t (w - 1) (cut (replicate m k) s))) wide ∙ sheet_length_is t (w - 1) m w s
 
 -- .. is not long where the numbers are small
 lines-short : (m l : ℕ) (s : List ℕ) → l ≤ max_secret → m * (l + 1) ≤ length s → Below 256 s → length (lines_to m (l + 1) s) ≤ m * (2 * max_secret + 9)

@@ -1,12 +1,12 @@
 -- The writer from the checks of rows and what is done with accepted rows.
 -- Assumes nothing.
-use mathlib.Core.Path.{◌≡◌, refl, sym, ap, ap₂, ◌∙◌, subst}
+use mathlib.Core.Path.{◌≡◌, sym, ap, ap₂, ◌∙◌, subst}
 use mathlib.Core.List.{List, ◌++◌}
-use Prim.Native.Nat.{ℕ, ◌+◌, ◌*◌, ◌/◌, ◌<◌, ◌≤◌}
+use Prim.Native.Nat.{ℕ, ◌+◌, ◌*◌, ◌/◌, ◌≤◌}
 use native.Mathlib.Nat.{zero-add}
 use native.Mathlib.Omega.{arith}
 use lib.ListN.{length, drop, replicate}
-use borrow.Author.Tests.{lt-ltb, le-ltb}
+use borrow.Author.Tests.{le-ltb}
 use Rattle.answer.specs.Outcome.{Outcome, done, refused}
 use Rattle.rows.specs.Storage.{cut}
 use Rattle.rows.specs.Lengths.{lengths_of}
@@ -41,9 +41,10 @@ module _ (t : ℕ) (s bytes out : List ℕ) where
         ((readable bytes (passed (unreadable bytes) 13 0 0 _ l e).0).1, k.most, k.filled)
 
     -- the writer does what is done with them
-    pub writes : {a : Outcome} {left : List ℕ} → WritesAccepted t (length bytes / 4) l s out a left → WritesSheet t s bytes out a left
+    pub writes : {v : ℕ} {a : Outcome} {left : List ℕ} → v ≡ l → WritesAccepted t (length bytes / 4) v s out a left → WritesSheet t s bytes out a left
     unfolding sheet_answer sheet_bytes
-    writes {a} {left} p =
+    writes {v} {a} {left} count given =
+        let p = subst (λ x. WritesAccepted t (length bytes / 4) x s out a left) count given in
         let k = accepted-bytes 1 s bytes l e in
         let text : sheet t l (cut (replicate (length bytes / 4) (l + 1)) s) ≡ sheet_text t s bytes =
         ap₂ (λ v r. sheet t v (cut r s)) (sym k.value-count) (sym k.lengths_are) in
@@ -57,24 +58,14 @@ module _ (t m l : ℕ) (s out : List ℕ) where
   abbrev text : List ℕ
   text = sheet t l (cut (replicate m (l + 1)) s)
 
-  pub too_low : t < 2 → WritesAccepted t m l s out (refused 4 0 0) out
-  too_low h = record { answers = sym (simp (lt-ltb t 2 h)); leaves = refl }
-
-  module _ (low : 2 ≤ t) where
-    pub too_high : max_shares < t → WritesAccepted t m l s out (refused 1 0 0) out
-    too_high h = record { answers = sym (simp (le-ltb t 2 low, lt-ltb max_shares t h)); leaves = refl }
-
-    module _ (high : t ≤ max_shares) {n : ℕ} (counted : n ≡ length text) where
-      pub no_room : length out < n → WritesAccepted t m l s out (refused 12 0 0) out
-      no_room h = record { answers = sym (simp (le-ltb t 2 low, le-ltb max_shares t high, lt-ltb (length out) (length text) (omega arith))); leaves = refl }
-
-      -- the first line and then the others, which the output then has
-      pub written : {q r e : ℕ} {first mid left new : List ℕ} → n ≤ length out → first ≡ out → q ≡ 0 → Puts (head_line t m l) q first r mid → Puts (lines_to m (l + 1) s) r mid e left
-          → new ≡ left → WritesAccepted t m l s out (done n) new
-      written {q} {r} {e} {first} {mid} {left} {new} h same front p q' is =
-          let head = subst (λ k. Puts (head_line t m l) k out r mid) front (subst (λ o. Puts (head_line t m l) q o r mid) same p) in
-          let put = subst (λ x. Puts x 0 out e left) (sym (sheet_is t l m (l + 1) s)) (puts_then (omega arith) head q') in
-          record {
-            answers = ap done counted ∙ sym (simp (le-ltb t 2 low, le-ltb max_shares t high, le-ltb (length out) (length text) (omega arith)));
-            leaves = is ∙ put.leaves ∙ ap (λ k. text ++ drop k out) (zero-add (length text) ∙ sym counted);
-          }
+  module _ (low : 2 ≤ t) (high : t ≤ max_shares) {n : ℕ} (counted : n ≡ length text) where
+    -- the first line and then the others, which the output then has
+    pub written : {w q r e : ℕ} {first mid left new : List ℕ} → n ≤ length out → first ≡ out → q ≡ 0 → Puts (head_line t m l) q first r mid → Puts (lines_to m w s) r mid e left
+        → w ≡ l + 1 → new ≡ left → WritesAccepted t m l s out (done n) new
+    written {w} {q} {r} {e} {first} {mid} {left} {new} h same front p q' wide is =
+        let head = subst (λ k. Puts (head_line t m l) k out r mid) front (subst (λ o. Puts (head_line t m l) q o r mid) same p) in
+        let put = subst (λ x. Puts x 0 out e left) (sym (sheet_is t l m (l + 1) s)) (puts_then (omega arith) head (subst (λ k. Puts (lines_to m k s) r mid e left) wide q')) in
+        record {
+          answers = ap done counted ∙ sym (simp (le-ltb t 2 low, le-ltb max_shares t high, le-ltb (length out) (length text) (omega arith)));
+          leaves = is ∙ put.leaves ∙ ap (λ k. text ++ drop k out) (zero-add (length text) ∙ sym counted);
+        }

@@ -37,6 +37,7 @@ pub fn row_length(id: u8, l: usize) -> usize
 }
 
 // Of a sheet with this first line and these rows.
+// A sum by a loop: as a `fold` over the rows the check found neither that it fits nor what it is.
 pub fn sheet_length(head: &Head, rows: &[u8]) -> usize
     requires { head.now.rows * (head.now.values + 1) ≤ length rows.now }
     ensures { result ≡ length (sheet head.now.threshold head.now.values (cut (replicate head.now.rows (head.now.values + 1)) rows.now)) }

@@ -1,24 +1,24 @@
 // A text is put into an output piece by piece, each behind the one before. A row's values are secret: their digits are made without a
 // branch or an index.
-ghost use Rattle.std.specs.Prelude.{◌≡◌, [], ◌∷◌, ◌+◌, ◌*◌, ◌<◌, ◌≤◌, length, replicate};
+ghost use Rattle.std.specs.Prelude.{◌≡◌, [], ◌∷◌, ◌*◌, ◌<◌, length, replicate};
 ghost use Rattle.rows.specs.Storage.{cut};
 ghost use Rattle.sheets.specs.Text.{tab, digit as digitOf, decimal, hex_digit, hex};
 ghost use Rattle.sheets.specs.Sheet.{head_line, row_line, row_lines};
-ghost use Rattle.sheets.specs.Writing.{Puts};
+ghost use Rattle.sheets.specs.Writing.{HasRoom, Adds};
 
 use crate::head::Head;
 use rows::Rows;
 
-pub const TAB: u8 = 9;
+pub const TAB: u8 = b'\t';
 
-pub const LINE_FEED: u8 = 10;
+pub const LINE_FEED: u8 = b'\n';
 
 // The digit of a number under 10.
 fn digit(d: usize) -> u8
     requires { d < 10 }
     ensures { result ≡ digitOf d }
 {
-    48 + (d as u8)
+    b'0' + (d as u8)
 }
 
 // The lower-case digit of a number under 16: those from 10 on stand 39 further than the others.
@@ -26,10 +26,11 @@ fn hex_digit(d: u8) -> u8
     requires { d < 16 }
     ensures { result ≡ hex_digit d }
 {
-    48 + d + (d + 6) / 16 * 39
+    b'0' + d + (d + 6) / 16 * 39
 }
 
 // Bytes in hex, two digits each.
+// By index: of a slice that is lent in pairs, as by `as_chunks_mut`, std does not say what it ends as.
 fn write_hex(out: &mut [u8], values: &[u8])
     requires { length out.old ≡ length values.now * 2 }
     ensures { out.new ≡ hex values.now }
@@ -41,6 +42,7 @@ fn write_hex(out: &mut [u8], values: &[u8])
 }
 
 // An output that is written up to a place.
+// A slice and a place in it: the C interface lends the output, and the library has no heap.
 #[derive(Drop)]
 pub struct Page<'a> {
     out: &'a mut [u8],
@@ -57,18 +59,16 @@ impl<'a> Page<'a> {
     }
 
     fn byte(&mut self, b: u8)
-        requires { self.old.end < length self.old.out.now }
-        ensures same { self.new.out.ghost_name ≡ self.old.out.ghost_name }
-        ensures puts { Puts (b ∷ []) self.old.end self.old.out.now self.new.end self.new.out.now }
+        requires { HasRoom (b ∷ []) self.old }
+        ensures { Adds (b ∷ []) self.old self.new }
     {
         self.out[self.end] = b;
         self.end += 1;
     }
 
     fn word(&mut self, word: &[u8])
-        requires { self.old.end + length word.now ≤ length self.old.out.now }
-        ensures same { self.new.out.ghost_name ≡ self.old.out.ghost_name }
-        ensures puts { Puts word.now self.old.end self.old.out.now self.new.end self.new.out.now }
+        requires { HasRoom word.now self.old }
+        ensures { Adds word.now self.old self.new }
     {
         let next = self.end + word.len();
         self.out[self.end..next].copy_from_slice(word);
@@ -77,9 +77,8 @@ impl<'a> Page<'a> {
 
     // A number: its tenth first, where that is not 0, then its last digit.
     fn decimal(&mut self, n: usize)
-        requires { self.old.end + length (decimal n) ≤ length self.old.out.now }
-        ensures same { self.new.out.ghost_name ≡ self.old.out.ghost_name }
-        ensures puts { Puts (decimal n) self.old.end self.old.out.now self.new.end self.new.out.now }
+        requires { HasRoom (decimal n) self.old }
+        ensures { Adds (decimal n) self.old self.new }
     {
         if n < 10 {
             return self.byte(digit(n));
@@ -90,18 +89,16 @@ impl<'a> Page<'a> {
 
     // A tab, and a number: a field of a line.
     fn number(&mut self, n: usize)
-        requires { self.old.end + length (decimal n) + 1 ≤ length self.old.out.now }
-        ensures same { self.new.out.ghost_name ≡ self.old.out.ghost_name }
-        ensures puts { Puts (tab ∷ decimal n) self.old.end self.old.out.now self.new.end self.new.out.now }
+        requires { HasRoom (tab ∷ decimal n) self.old }
+        ensures { Adds (tab ∷ decimal n) self.old self.new }
     {
         self.byte(TAB);
         self.decimal(n);
     }
 
     fn hex(&mut self, values: &[u8])
-        requires { self.old.end + length values.now * 2 ≤ length self.old.out.now }
-        ensures same { self.new.out.ghost_name ≡ self.old.out.ghost_name }
-        ensures puts { Puts (hex values.now) self.old.end self.old.out.now self.new.end self.new.out.now }
+        requires { HasRoom (hex values.now) self.old }
+        ensures { Adds (hex values.now) self.old self.new }
     {
         let next = self.end + values.len() * 2;
         write_hex(&mut self.out[self.end..next], values);
@@ -110,9 +107,8 @@ impl<'a> Page<'a> {
 
     // A row's line.
     fn row(&mut self, row: &[u8])
-        requires { (0 < length row.now) × (self.old.end + length (row_line row.now) ≤ length self.old.out.now) }
-        ensures same { self.new.out.ghost_name ≡ self.old.out.ghost_name }
-        ensures puts { Puts (row_line row.now) self.old.end self.old.out.now self.new.end self.new.out.now }
+        requires { (0 < length row.now) × HasRoom (row_line row.now) self.old }
+        ensures { Adds (row_line row.now) self.old self.new }
     {
         self.word(b"row");
         self.number(row[0] as usize);
@@ -123,9 +119,8 @@ impl<'a> Page<'a> {
 
     // The lines of rows.
     pub fn rows(&mut self, rows: &Rows)
-        requires { self.old.end + length (row_lines (cut (replicate rows.now.count rows.now.width) rows.now.bytes.now)) ≤ length self.old.out.now }
-        ensures same { self.new.out.ghost_name ≡ self.old.out.ghost_name }
-        ensures puts { Puts (row_lines (cut (replicate rows.now.count rows.now.width) rows.now.bytes.now)) self.old.end self.old.out.now self.new.end self.new.out.now }
+        requires { HasRoom (row_lines (cut (replicate rows.now.count rows.now.width) rows.now.bytes.now)) self.old }
+        ensures { Adds (row_lines (cut (replicate rows.now.count rows.now.width) rows.now.bytes.now)) self.old self.new }
     {
         for row in rows.bytes[..rows.count * rows.width].chunks_exact(rows.width) {
             self.row(row);
@@ -134,9 +129,8 @@ impl<'a> Page<'a> {
 
     // The first line.
     pub fn head(&mut self, head: &Head)
-        requires { self.old.end + length (head_line head.now.threshold head.now.rows head.now.values) ≤ length self.old.out.now }
-        ensures same { self.new.out.ghost_name ≡ self.old.out.ghost_name }
-        ensures puts { Puts (head_line head.now.threshold head.now.rows head.now.values) self.old.end self.old.out.now self.new.end self.new.out.now }
+        requires { HasRoom (head_line head.now.threshold head.now.rows head.now.values) self.old }
+        ensures { Adds (head_line head.now.threshold head.now.rows head.now.values) self.old self.new }
     {
         self.word(b"seal");
         self.number(head.threshold);

@@ -1,5 +1,5 @@
 // A set of rows is written as a sheet: once the rows are judged, the threshold, the room, and then the text.
-ghost use Rattle.std.specs.Prelude.{◌≡◌, ◌+◌, ◌*◌, ◌≤◌, length};
+ghost use Rattle.std.specs.Prelude.{◌-◌, ◌≤◌};
 ghost use Rattle.answer.specs.Answers.{answer_of};
 ghost use Rattle.row_set.specs.Limits.{max_secret, max_rows};
 ghost use Rattle.sheets.specs.Sheet.{WritesAccepted, WritesSheet};
@@ -10,16 +10,10 @@ use crate::put::Page;
 use answer::Reason;
 use rows::Rows;
 
-// Of m accepted rows with l values each.
-fn write_accepted(
-    threshold: usize,
-    rows: &[u8],
-    m: usize,
-    l: usize,
-    out: &mut [u8],
-) -> Result<usize, Reason>
-    requires { (m ≤ max_rows) × (l ≤ max_secret) × (m * (l + 1) ≡ length rows.now) }
-    ensures { WritesAccepted threshold m l rows.now out.old (answer_of result) out.new }
+// Of accepted rows.
+fn write_accepted(threshold: usize, rows: &Rows, out: &mut [u8]) -> Result<usize, Reason>
+    requires { (rows.now.count ≤ max_rows) × (rows.now.width - 1 ≤ max_secret) }
+    ensures { WritesAccepted threshold rows.now.count (rows.now.width - 1) rows.now.bytes.now out.old (answer_of result) out.new }
 {
     if threshold < 2 {
         return Err(Reason::SharingMinThreshold);
@@ -29,20 +23,16 @@ fn write_accepted(
     }
     let head = Head {
         threshold,
-        rows: m,
-        values: l,
+        rows: rows.count,
+        values: rows.width - 1,
     };
-    let n = sheet_length(&head, rows);
+    let n = sheet_length(&head, rows.bytes);
     if out.len() < n {
         return Err(Reason::NoRoom);
     }
     let mut page = Page::new(out);
     page.head(&head);
-    page.rows(&Rows {
-        bytes: rows,
-        width: l + 1,
-        count: m,
-    });
+    page.rows(rows);
     Ok(n)
 }
 
@@ -56,5 +46,10 @@ pub fn write_sheet(
     ensures { WritesSheet threshold rows.now lengths.now out.old (answer_of result) out.new }
 {
     let l = row_set::judge_rows_by_byte_lengths(rows, lengths, 0)?;
-    write_accepted(threshold, rows, lengths.len() / 4, l, out)
+    let accepted = Rows {
+        bytes: rows,
+        width: l + 1,
+        count: lengths.len() / 4,
+    };
+    write_accepted(threshold, &accepted, out)
 }

@@ -59,9 +59,12 @@ loop-row-preserved c =
       rows_step (length l.yielded) a.rows.now.width a.self.now.end l.self.end r.new.self.end a.rows.now.bytes.now a.self.now.out.now l.self.out.now r.new.self.out.now (omega (arith, c.requires)) l.invariant.4 line,
     )
 
-pub returns-clause-puts : goal.returns-clause-puts
-returns-clause-puts c =
+pub returns : goal.returns
+returns c =
     let a = c.args in
     let l = c.loop-row in
     let all = all_taken l.invariant.3 (omega (arith, c.in-None.ensures.steps.1.0, l.invariant.2)) in
-    subst (λ k. Puts (lines_to k a.rows.now.width a.rows.now.bytes.now) a.self.now.end a.self.now.out.now l.self.end l.self.out.now) all l.invariant.4
+    record {
+      same = l.invariant.0;
+      puts = subst (λ k. Puts (lines_to k a.rows.now.width a.rows.now.bytes.now) a.self.now.end a.self.now.out.now l.self.end l.self.out.now) all l.invariant.4;
+    }

@@ -29,7 +29,7 @@ pub enum Reason {
 }
 
 impl Reason {
-    // The number in the table.
+    // The number in the table. A method and no `From`: docs/PROMISES.md names it, and `number_of` states it.
     pub fn number(self) -> u64
         ensures { result ≡ number_of (reason_of self) }
     {
@@ -51,7 +51,7 @@ impl Reason {
         }
     }
 
-    // The first place, 0 where there is none.
+    // The first place, 0 where there is none. 0 and no Option, as `word_of` puts it into the word that C gets.
     pub fn first_place(self) -> usize
         ensures { result ≡ first_of (reason_of self) }
     {
@@ -63,7 +63,7 @@ impl Reason {
         }
     }
 
-    // The second place, 0 where there is none.
+    // The second place, 0 where there is none. 0 and no Option, as `word_of` puts it into the word that C gets.
     pub fn second_place(self) -> usize
         ensures { result ≡ second_of (reason_of self) }
     {

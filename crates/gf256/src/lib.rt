@@ -48,6 +48,7 @@ fn gf256_square(a: u8) -> u8
 }
 
 // The inverse, and 0 for 0: the 254th power. Without a loop, so that a loop over many bytes does them side by side.
+// 0 and no Option for 0: `inv256` in the contract holds it, and layers above need no case where they know that it is not 0.
 pub fn gf256_inverse(a: u8) -> u8
     ensures { result ≡ inv256 a }
 {
@@ -121,7 +122,7 @@ impl Gf256 {
         self.add(self)
     }
 
-    // 1 for zero, and else 0, with no branch.
+    // 1 for zero, and else 0, with no branch. A byte and no bool: it stands for the crate's `Choice`, and nothing branches on it.
     pub fn is_zero(self) -> u8
         ensures { result ≡ is_zero self.0 }
     {
@@ -145,8 +146,8 @@ impl Gf256 {
     }
 }
 
-// The identifier of a row: an element that is counted up as a number. What it has of an element it hands on under the crate's names;
-// one trait for both types would state each of these promises twice all the same, once for each view of the byte.
+// The identifier of a row: an element that is counted up as a number. What it has of an element it hands on under the crate's names:
+// a trait for both would have the byte and the meaning of an answer as ghost members, and four bodies for each type all the same.
 #[derive(Clone, Copy)]
 pub struct IdentifierGf256(pub Gf256);
 
@@ -176,13 +177,14 @@ impl IdentifierGf256 {
         Ok(IdentifierGf256(Gf256(byte)))
     }
 
+    // A byte and no bool, as at an element.
     pub fn is_zero(self) -> u8
         ensures { result ≡ is_zero self.0.0 }
     {
         self.0.is_zero()
     }
 
-    // The sum as numbers, and 0 past 255.
+    // The sum as numbers, and 0 past 255. 0 and no Option there: the crate has it so, and `bounded_add` in the contract holds it.
     pub fn inc(self, increment: IdentifierGf256) -> IdentifierGf256
         ensures { result.0.0 ≡ bounded_add self.0.0 increment.0.0 256 }
     {

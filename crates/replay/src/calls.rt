@@ -22,7 +22,7 @@ const IDS: usize = 300;
 const ROWS: usize = 2 * MAX_SECRET + 140000;
 
 // Of lengths: three more than are ever taken.
-const LENGTHS: usize = 262152;
+const LENGTHS: usize = 4 * (65535 + 3);
 
 // Memory to lend: so much of it as the field asks for.
 fn lent(alloc: Global, field: &[u8]) -> Result<Vec<u8>, Fault>
@@ -91,7 +91,7 @@ fn read(alloc: Global, [text, head_room, room]: [&[u8]; 3]) -> Result<Answer, Fa
     })
 }
 
-pub fn answer(alloc: Global, line: &[u8]) -> Result<Answer, Fault> {
+pub(crate) fn answer(alloc: Global, line: &[u8]) -> Result<Answer, Fault> {
     let fields: Vec<&[u8]> = line.split(|c| *c == b' ').collect(alloc)?;
     match fields.as_slice() {
         [b"split", t, n, secret, ids, coefficients, room] => {

@@ -5,7 +5,7 @@ use std::alloc::{AllocError, AllocFailed, Global};
 
 // Why a line has no answer.
 #[derive(Drop)]
-pub enum Fault {
+pub(crate) enum Fault {
     Unreadable,
     TooLarge,
     OutOfMemory(AllocError),
@@ -23,7 +23,8 @@ impl<T: Drop> From<AllocFailed<T>> for Fault {
     }
 }
 
-// The value of a hexadecimal digit in lower case. (`to_digit` of the library takes upper case too.)
+// The value of a hexadecimal digit in lower case. (`to_digit` of the library takes upper case too, and what the program takes may not
+// change.)
 fn digit(c: u8) -> Option<u8>
     ensures { IfSome result (λ d. d < 16) }
 {
@@ -34,20 +35,18 @@ fn digit(c: u8) -> Option<u8>
     }
 }
 
-// The number that the digits spell. (`from_str_radix` of the library takes a sign and upper case too.)
+// The number that the digits spell. (`from_str_radix` of the library takes a plus in front and upper case too, and what the program
+// takes may not change.)
 fn value(digits: &[u8]) -> Option<usize> {
     if digits.is_empty() {
         return None;
     }
-    let mut sum: usize = 0;
-    for c in digits {
-        let d = digit(*c)?;
-        sum = sum.checked_mul(16)?.checked_add(d as usize)?;
-    }
-    Some(sum)
+    digits.iter().try_fold(0usize, |sum, c| {
+        sum.checked_mul(16)?.checked_add(usize::from(digit(*c)?))
+    })
 }
 
-pub fn number(field: &[u8]) -> Result<usize, Fault> {
+pub(crate) fn number(field: &[u8]) -> Result<usize, Fault> {
     value(field).ok_or(Fault::Unreadable)
 }
 
@@ -115,7 +114,7 @@ impl<const MOST: usize> Kept<MOST> {
 }
 
 // The bytes of the byte string that a field is, so many at most.
-pub fn bytes<const MOST: usize>(alloc: Global, field: &[u8]) -> Result<Vec<u8>, Fault>
+pub(crate) fn bytes<const MOST: usize>(alloc: Global, field: &[u8]) -> Result<Vec<u8>, Fault>
     ensures { IfOk result (λ v. vec_len v ≤ MOST) }
 {
     let mut kept = Kept::<MOST> {

@@ -4,12 +4,13 @@ ghost use Rattle.replay.specs.Touched.{TouchedIs};
 use std::fmt;
 
 // What lent memory holds before a call.
-pub const UNTOUCHED: u8 = 0xee;
+pub(crate) const UNTOUCHED: u8 = 0xee;
 
 // Words from here on are refusals, the others counts.
 const REFUSALS: u64 = 0x100_0000_0000;
 
 // A checksum that places count in, so that two bytes changed about are seen.
+// A loop and no `fold`: of a fold the check does not find that the sum fits its type at each call, here the invariant says it in a line.
 fn checksum(s: &[u8]) -> u64 {
     let mut sum: u64 = 0;
     for b in s {
@@ -44,10 +45,10 @@ impl fmt::Display for Memory<'_> {
 
 // The word that an entry gave back, and the memories that were lent, as it left them.
 #[derive(Drop)]
-pub struct Answer {
-    pub word: u64,
-    pub head: Option<Vec<u8>>,
-    pub out: Vec<u8>,
+pub(crate) struct Answer {
+    pub(crate) word: u64,
+    pub(crate) head: Option<Vec<u8>>,
+    pub(crate) out: Vec<u8>,
 }
 
 impl Answer {
@@ -68,6 +69,7 @@ impl fmt::Display for Answer {
             let out = Memory(&self.out);
             return write!(f, "{out}");
         }
+        // Taken apart as the C interface lays it out: number, first place and second place from bits 40, 16 and 0 on.
         let number = word / REFUSALS;
         let first = word / 0x1_0000 % 0x100_0000;
         let second = word % 0x1_0000;

@@ -3,10 +3,13 @@
 #![tactic(auto)]
 
 ghost use Rattle.std.specs.Prelude.{◌≡◌, ◌≤◌, ◌==◌, Ok, Err, MatchResult, length, position};
+ghost use Rattle.answer.specs.Outcome.{number_of};
+ghost use Rattle.answer.specs.Answers.{reason_of};
 ghost use Rattle.sheets.specs.Text.{line_feed};
 ghost use Rattle.reading.specs.Unsheet.{after_line};
 ghost use Rattle.sheet_rows.specs.Shown.{ShowsRight};
 
+use answer::Reason;
 use std::io;
 
 // A text may have this many bytes. The contracts have the number itself, so that another here is refused.
@@ -28,18 +31,18 @@ fn behind_first_line(text: &[u8]) -> &[u8]
     }
 }
 
-// What is shown of a text: of a sheet its row lines, of any other text 14. The rows are shorter than their lines, so that there is room
-// for those of every text that is read.
-fn output_of(text: &[u8]) -> Result<&[u8], u64>
+// What is shown of a text: of a sheet its row lines, of any other text the reason numbered 14. The rows are shorter than their lines, so
+// that there is room for those of every text that is read. Head and rows are arrays: they need no allocator and cannot fail.
+fn output_of(text: &[u8]) -> Result<&[u8], Reason>
     requires { length text.now ≤ 49152 }
-    ensures { MatchResult result (λ shown. ShowsRight text.now (Ok shown.now)) (λ number. ShowsRight text.now (Err number)) }
+    ensures { MatchResult result
+        (λ shown. ShowsRight text.now (Ok shown.now))
+        (λ reason. ShowsRight text.now (Err (number_of (reason_of reason)))) }
 {
     let mut head = [0; 12];
     let mut rows = [0; MOST];
-    match reader::read_sheet(text, &mut head, &mut rows) {
-        Ok(_) => Ok(behind_first_line(text)),
-        Err(reason) => Err(reason.number()),
-    }
+    reader::read_sheet(text, &mut head, &mut rows)?;
+    Ok(behind_first_line(text))
 }
 
 fn show(rt: &impl Print, text: &[u8]) -> io::Result<()>
@@ -47,7 +50,10 @@ fn show(rt: &impl Print, text: &[u8]) -> io::Result<()>
 {
     match output_of(text) {
         Ok(lines) => rt.write_all(lines),
-        Err(number) => println!(rt; "{number}"),
+        Err(reason) => {
+            let number = reason.number();
+            println!(rt; "{number}")
+        }
     }
 }
 

@@ -34,8 +34,8 @@ impl TwosComplement for u8 {
 
     // 256 less where the top bit is set.
     fn cast(self) -> i8 {
-        let top = (self >> 7) as i16;
-        ((self as i16) - (top << 8)) as i8
+        let top = i16::from(self >> 7);
+        (i16::from(self) - (top << 8)) as i8
     }
 
     fn negated(self) -> u8 {
@@ -51,7 +51,7 @@ impl TwosComplement for i8 {
     ghost negative = { int_wrapped_neg w8 };
 
     fn cast(self) -> u8 {
-        ((self as i16) & 255) as u8
+        (i16::from(self) & 255) as u8
     }
 
     fn negated(self) -> i8 {
@@ -68,8 +68,8 @@ impl TwosComplement for u16 {
 
     // 65536 less where the top bit is set.
     fn cast(self) -> i16 {
-        let top = (self >> 15) as i32;
-        ((self as i32) - (top << 16)) as i16
+        let top = i32::from(self >> 15);
+        (i32::from(self) - (top << 16)) as i16
     }
 
     fn negated(self) -> u16 {
@@ -85,7 +85,7 @@ impl TwosComplement for i16 {
     ghost negative = { int_wrapped_neg w16 };
 
     fn cast(self) -> u16 {
-        ((self as i32) & 65535) as u16
+        (i32::from(self) & 65535) as u16
     }
 
     fn negated(self) -> i16 {

@@ -7,8 +7,8 @@ use std::alloc::{AllocError, Global};
 use std::io::Read;
 
 // Reads until the buffer is full, the input ends or it cannot be read any further, and returns how many bytes it put at the start.
-// A loop of its own, since what the programs do may not change: `read_exact` of std tells no count where the input ends early, and
-// `read_to_end` reads on behind an interruption, where this ends.
+// A loop of its own, since what the programs do may not change, and for them an input that cannot be read any further ends there (see
+// sheet_rows): `read_exact` of std tells no count where the input ends early, and `read_to_end` reads on behind an interruption.
 pub fn read_full(rt: &impl Input, buf: &mut [u8]) -> usize
     ensures { result ≤ length buf.new }
 {

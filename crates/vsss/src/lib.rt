@@ -13,6 +13,7 @@ ghost use Rattle.vsss.specs.Words.{Gives};
 use answer::Reason;
 
 // The answer as a word: the count, or number, first place and second place in its bits from 40, from 16 and from 0 on.
+// A function and no `From`: it asks that the word is below 2^64, which not every answer keeps to.
 fn word(a: Result<usize, Reason>) -> u64
     requires { word_of (answer_of a) < 2 ^ 64 }
     ensures { result ≡ word_of (answer_of a) }

@@ -1,5 +1,6 @@
 // The entries of `vsss` under their names for C and Rust. Each hands its arguments on and promises the same, by the names under which
-// `entries` has theorems about it.
+// `entries` has theorems about it. The bodies only hand on, since a crate is a library or a static library, and the programs need the
+// library.
 #![tactic(auto)]
 
 ghost use Rattle.std.specs.Prelude.{◌≡◌, length};

@@ -6,7 +6,8 @@ ghost use Rattle.zero.specs.Zero.{is_zero, int_is_zero, is_zero_bytes};
 
 use signs::TwosComplement;
 
-/// A value that is tested for being zero, without a branch on it.
+/// A value that is tested for being zero, without a branch on it. The answers are bytes and no bools: they stand for the crate's
+/// `Choice`, and nothing branches on them.
 pub trait CtIsZero {
     ghost zero_bit: { Self → ℕ };
 

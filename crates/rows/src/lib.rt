@@ -17,7 +17,7 @@ ghost use Rattle.std.proofs.lemmas.List.{map-id};
 ghost use Rattle.rows.specs.Combining.{Ready, plus_times, plus_rows};
 
 // Bytes, and those that identifiers can be: all but 0.
-const BYTES: usize = 256;
+pub const BYTES: usize = 256;
 
 const IDENTIFIERS: usize = BYTES - 1;
 
@@ -64,11 +64,10 @@ pub fn sums_to<T: Length>(lengths: &[T], n: usize) -> bool
 {
     let mut rest = n;
     for given in lengths {
-        let l = given.value() as usize;
-        if rest < l {
+        let Some(less) = rest.checked_sub(given.value() as usize) else {
             return false;
-        }
-        rest -= l;
+        };
+        rest = less;
     }
     rest == 0
 }
@@ -114,12 +113,7 @@ impl Rows<'_> {
         requires { from ≤ self.now.count }
         ensures { IsFound result (from + place_of x (drop from (row_ids self.now))) self.now.count }
     {
-        for i in from..self.count {
-            if self.identifier(i) == x {
-                return Some(i);
-            }
-        }
-        None
+        (from..self.count).find(|i| self.identifier(*i) == x)
     }
 
     // Refusal 7: its second place, the first row whose identifier was met before. One pass, with a mark for each identifier that
@@ -128,6 +122,7 @@ impl Rows<'_> {
         ensures { IsFound result (first_repeating (row_ids self.now)) self.now.count }
     {
         let mut seen = [false; BYTES];
+        // A loop: marks are set as it goes, and an iterator is no plainer.
         for j in 0..self.count {
             let x = usize::from(self.identifier(j));
             if seen[x] {
@@ -143,7 +138,7 @@ impl Rows<'_> {
         requires { (j < self.now.count) × (j ≡ first_repeating (row_ids self.now)) }
         ensures { result ≡ first_repeated (row_ids self.now) }
     {
-        self.find(self.identifier(j), 0).unwrap_or(j)
+        self.find(self.identifier(j), 0).unwrap()
     }
 
     // The values of row i.
@@ -178,6 +173,7 @@ impl Rows<'_> {
         ensures { out.new ≡ combined gf256 0 (row_ids self.now) (values (cut (replicate self.now.count self.now.width) self.now.bytes.now)) (length out.old) }
     {
         let bytes = self.storage();
+        // Arrays: the library has no heap.
         let mut ids = [0u8; IDENTIFIERS];
         let mut coefficients = [0u8; IDENTIFIERS];
         let ids = &mut ids[..self.count];

@@ -52,6 +52,7 @@ impl Polynomials<'_> {
         requires { (length vs.old ≡ length self.now.secret.now) × (length self.now.secret.now ≤ block_size) }
         ensures { vs.new ≡ row gf256 self.now.k x self.now.secret.now self.now.coefficients.now }
     {
+        // An array: the library has no heap.
         let mut column = [0u8; BLOCK];
         let w = self.secret.len();
         strides::gather(self.coefficients, self.k, self.k - 1, vs);

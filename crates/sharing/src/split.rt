@@ -34,13 +34,11 @@ fn split_answer(
     if threshold < 2 {
         return Err(Reason::SharingMinThreshold);
     }
-    for i in 0..limit {
-        let Some(id) = ids.get(i) else {
-            return Err(Reason::NotEnoughShareIdentifiers);
-        };
-        if *id == 0 {
-            return Err(Reason::SharingInvalidIdentifier(i));
-        }
+    if let Some(i) = ids.iter().take(limit).position(|id| *id == 0) {
+        return Err(Reason::SharingInvalidIdentifier(i));
+    }
+    if ids.len() < limit {
+        return Err(Reason::NotEnoughShareIdentifiers);
     }
     if MAX_SECRET < length {
         return Err(Reason::TooLong);

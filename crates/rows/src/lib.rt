@@ -197,6 +197,7 @@ fn times_differences(ds: &mut [u8], xs: &[u8], a: u8)
     requires { length ds.old ≡ length xs.now }
     ensures { ds.new ≡ zip_with (λ d x. cond (eqb a x) d (mul256 d (bit_xor x a))) ds.old xs.now }
 {
+    // By place: after a zip of iter_mut a proof knows no element.
     for (k, d) in ds.iter_mut().enumerate() {
         let x = xs[k];
         let f = if a == x { 1 } else { x ^ a };
@@ -239,6 +240,7 @@ fn add_scaled(out: &mut [u8], row: &[u8], c: u8)
     requires { length out.old ≡ length row.now }
     ensures { out.new ≡ plus_times c out.old row.now }
 {
+    // By place: after a zip of iter_mut a proof knows no element.
     for (k, o) in out.iter_mut().enumerate() {
         *o ^= gf256::gf256_mul(row[k], c);
     }

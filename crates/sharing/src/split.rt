@@ -60,6 +60,7 @@ fn write_rows(ids: &[u8], polynomials: &Polynomials, out: &mut [u8])
         ++ drop (split_room (length ids.now) (length polynomials.now.secret.now)) out.old }
 {
     let w = polynomials.secret.len() + 1;
+    // By place: of what chunks_exact_mut lends a proof knows the length alone.
     for (j, x) in ids.iter().enumerate() {
         let at = j * w;
         out[at] = *x;

@@ -141,22 +141,14 @@ impl Rows<'_> {
         self.find(self.identifier(j), 0).unwrap()
     }
 
-    // The values of row i.
-    fn values(&self, i: usize) -> &[u8]
-        requires { i < self.now.count }
-        ensures { result.now ≡ take (self.now.width - 1) (drop (i * self.now.width + 1) self.now.bytes.now) }
-    {
-        let at = i * self.width;
-        &self.bytes[at + 1..at + self.width]
-    }
-
     // The values of the rows in turn, each row's times its coefficient, to what is summed so far.
     fn add_rows(&self, out: &mut [u8], coefficients: &[u8])
         requires { (length coefficients.now ≡ self.now.count) × (self.now.width ≡ length out.old + 1) }
         ensures { out.new ≡ plus_rows self.now.width coefficients.now self.now.bytes.now out.old }
     {
-        for (i, c) in coefficients.iter().enumerate() {
-            add_scaled(out, self.values(i), *c);
+        let rows = &self.bytes[..self.count * self.width];
+        for (row, c) in rows.chunks_exact(self.width).zip(coefficients) {
+            add_scaled(out, &row[1..], *c);
         }
     }
 

@@ -10,7 +10,7 @@ ghost use Rattle.shamir.specs.Polynomial.{others, weight};
 ghost use Rattle.shamir.specs.Rows.{combined};
 ghost use Rattle.rows.specs.Search.{sum, all_are, place_of, IsFound, first_repeated, first_repeating};
 ghost use Rattle.strides.specs.Strides.{strided};
-ghost use Rattle.rows.specs.Storage.{cut, values};
+ghost use Rattle.rows.specs.Storage.{values};
 ghost use Rattle.rows.specs.Lengths.{four_of, lengths_of};
 ghost use Rattle.std.proofs.Common.{sym};
 ghost use Rattle.std.proofs.lemmas.List.{map-id};
@@ -98,7 +98,7 @@ pub struct Rows<'a> {
 }
 
 impl Rows<'_> {
-    ghost use Rattle.rows.specs.Identifiers.{row_ids};
+    ghost use Rattle.rows.specs.Identifiers.{row_ids, row_list};
 
     // The identifier of row i.
     pub fn identifier(&self, i: usize) -> u8
@@ -162,7 +162,7 @@ impl Rows<'_> {
     // The secret of rows that are each one byte longer than it. Rows with distinct identifiers, none of them 0, are at most 255.
     pub fn combine_rows(&self, out: &mut [u8])
         requires { (self.now.width ≡ length out.old + 1) × Ready self.now.width self.now.count self.now.bytes.now }
-        ensures { out.new ≡ combined gf256 0 (row_ids self.now) (values (cut (replicate self.now.count self.now.width) self.now.bytes.now)) (length out.old) }
+        ensures { out.new ≡ combined gf256 0 (row_ids self.now) (values (row_list self.now)) (length out.old) }
     {
         let bytes = self.storage();
         // Arrays: the library has no heap.

@@ -6,7 +6,7 @@ use native.Mathlib.Omega.{arith}
 use native.Mathlib.Numerals.{add-one}
 use lib.ListN.{length, drop, get_or, set}
 use Rattle.polynomial.specs.Steps.{each}
-use Rattle.polynomial.proofs.Fill.{fill_one, fill_next, fill_all}
+use Rattle.polynomial.proofs.Fill.{fill_one, fill_next}
 
 pub length-each : (n : ℕ) (f : ℕ → ℕ) → length (each n f) ≡ n
 length-each zero f = refl
@@ -39,6 +39,3 @@ module _ (d : List ℕ) (n : ℕ) (f : ℕ → ℕ) where
   each-one v h e =
       fill_one (each n f) d n (length-each n f) v h
       ∙ ap (◌++ drop (n + 1) d) (ap (λ v. each n f ++ v ∷ []) e ∙ each_suc n f ∙ ap (λ m. each m f) (sym (add-one n)))
-
-  pub each_all : n ≡ length d → each n f ++ drop n d ≡ each (length d) f
-  each_all e = fill_all (each n f) d n (length-each n f) (omega arith) ∙ ap (λ m. each m f) e

@@ -26,6 +26,3 @@ module _ (p d : List ℕ) (n : ℕ) (long : length p ≡ n) where
   -- what is behind p was not written yet
   pub fill_next : n < length d → get_or (p ++ drop n d) n 0 ≡ get_or d n 0
   fill_next h = ap (λ l. get_or (p ++ l) n 0) (drop-cons d n 0 h) ∙ get_or_at p (get_or d n 0) (drop (suc n) d) 0 n long
-
-  pub fill_all : length d ≤ n → p ++ drop n d ≡ p
-  fill_all h = ap (p ++◌) (drop_of_length-le d {i = n} h) ∙ append-nil p

@@ -26,6 +26,7 @@ fn horner_step(vs: &mut [u8], x: u8, column: &[u8])
     requires { length column.now ≡ length vs.old }
     ensures { vs.new ≡ horner_step x vs.old column.now }
 {
+    // By place: after a zip of iter_mut a proof knows no element.
     for (i, v) in vs.iter_mut().enumerate() {
         *v = gf256::gf256_mul(*v, x) ^ column[i];
     }
@@ -52,6 +53,7 @@ impl Polynomials<'_> {
         requires { (length vs.old ≡ length self.now.secret.now) × (length self.now.secret.now ≤ block_size) }
         ensures { vs.new ≡ row gf256 self.now.k x self.now.secret.now self.now.coefficients.now }
     {
+        // An array: the library has no heap.
         let mut column = [0u8; BLOCK];
         let w = self.secret.len();
         strides::gather(self.coefficients, self.k, self.k - 1, vs);
@@ -67,6 +69,7 @@ impl Polynomials<'_> {
         requires { length vs.old ≡ length self.now.secret.now }
         ensures { vs.new ≡ row gf256 self.now.k x self.now.secret.now self.now.coefficients.now }
     {
+        // By place: of what chunks_mut lends a proof knows the length alone.
         for b in (0..vs.len()).step_by(BLOCK) {
             let e = (b + BLOCK).min(vs.len());
             self.part(b, e).evaluate_in_place(x, &mut vs[b..e]);

@@ -42,7 +42,8 @@ fn judge_equal_rows(rows: &Rows) -> Result<usize, Reason>
     Ok(l)
 }
 
-// Of rows that lie one after another and have these lengths, where so many are too few.
+// Of rows that lie one after another and have these lengths, where so many are too few. Rows and lengths come apart, as the C
+// interface lends them: nothing ties them before they are judged.
 #[tactic(auto, unfolding(crate::specs::RowSet::judged))]
 pub fn judge_rows<T: Length>(rows: &[u8], lengths: &[T], too_few: usize) -> Result<usize, Reason>
     ensures { answer_of result ≡ judged_rows (suc too_few) rows.now (T.lengths lengths.now) (done (secret_length (T.lengths lengths.now))) }
@@ -75,18 +76,17 @@ pub fn readable_lengths(bytes: &[u8]) -> Result<&[[u8; 4]], Reason>
         (λ lengths. (unreadable bytes.now ≡ false) × (map four_of lengths.now ≡ lengths_of bytes.now))
         (λ reason. (unreadable bytes.now ≡ true) × (reason_of reason ≡ refused 13 0 0)) }
 {
-    let odd = bytes.len() % 4;
-    if odd != 0 {
+    let (lengths, rest) = bytes.as_chunks();
+    if !rest.is_empty() {
         return Err(Reason::RowLengths);
     }
-    let lengths = rows::byte_lengths(bytes);
     if MAX_ROWS < lengths.len() {
         return Err(Reason::RowLengths);
     }
     Ok(lengths)
 }
 
-// As judge_rows, for lengths that come as bytes.
+// As judge_rows, for lengths that come as bytes. Its name and its promise stay: hosts lend lengths as bytes.
 pub fn judge_rows_by_byte_lengths(
     rows: &[u8],
     lengths: &[u8],

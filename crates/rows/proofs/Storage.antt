@@ -48,10 +48,6 @@ equal_lengths w (n ∷ ns) e = step (eqb n w) (eqb-true n w) (equal_lengths w ns
     step true f g h = ap₂ ◌∷◌ (f refl) (g h)
     step false f g h = absurd (let z : ◌≡◌ {A = ℕ} 0 1 = cc in omega arith)
 
-pub all_equal : (w m : ℕ) → all_are w (replicate m w) ≡ true
-all_equal w zero = refl
-all_equal w (suc m) = ap (◌&& all_are w (replicate m w)) (eq-eqb w w refl) ∙ all_equal w m
-
 pub sum-replicate : (m w : ℕ) → sum (replicate m w) ≡ m * w
 sum-replicate zero w = omega arith
 sum-replicate (suc m) w = omega (arith, sum-replicate m w)

@@ -1,16 +1,15 @@
 -- The rows, each times its coefficient, summed in turn from 0, are the values at 0 of the polynomials through their points.
 -- Assumes nothing.
 use mathlib.Core.Path.{◌≡◌, refl, sym, ap, ap₂, ◌∙◌, subst}
-use mathlib.Core.List.{List, [], ◌∷◌, map, zip_with}
+use mathlib.Core.List.{List, [], ◌∷◌, ◌++◌, map, zip_with}
 use mathlib.Core.Logic.{⊎_elim}
 use Prim.Native.Nat.{ℕ, zero, suc, ◌+◌, ◌*◌, ◌-◌, ◌<◌, ◌≤◌}
-use native.Mathlib.Nat.{eq-or-lt_of_le}
-use native.Mathlib.Numerals.{add-one}
+use native.Mathlib.Nat.{eq-or-lt_of_le, suc-mul}
 use native.Mathlib.Omega.{arith}
 use lib.Bits.{bit_xor, xor_zero_l, xor_zero_r}
 use lib.Dec.{lit<}
-use lib.ListN.{length, get_or, take, drop, replicate, length-drop, length-append, length-replicate, get_or-replicate, length-map, get_or-append}
-use lib.Seq.{ext_get_or, drop-cons, drop-drop, get_or-drop, get_or_at}
+use lib.ListN.{length, get_or, take, drop, replicate, length-drop, length-append, length-replicate, get_or-replicate, length-map, get_or-append, take-append-drop}
+use lib.Seq.{ext_get_or, drop_at, drop-append-le, length-take-le, get_or-drop, get_or_at}
 use Rattle.gf256.specs.Field256.{mul256, gf256}
 use Rattle.gf256.proofs.Field256.{ring256, laws256}
 use Rattle.shamir.specs.Lists.{Distinct}
@@ -22,7 +21,7 @@ use Rattle.strides.specs.Strides.{strided}
 use Rattle.rows.specs.Storage.{cut, values}
 use Rattle.rows.specs.Combining.{Ready, plus_times, plus_rows}
 use Rattle.strides.proofs.Strides.{length-strided}
-use Rattle.rows.proofs.Storage.{next_row, strided-lt, values-strided}
+use Rattle.rows.proofs.Storage.{strided-lt, values-strided}
 use Rattle.strides.proofs.InPlace.{length-zip-le, get_or-zip}
 use Rattle.rows.proofs.Ready.{ready_distinct}
 
@@ -35,17 +34,47 @@ zip-take f (x ∷ xs) ys zero h = absurd (omega arith)
 zip-take f (x ∷ xs) [] (suc n) h = refl
 zip-take f (x ∷ xs) (y ∷ ys) (suc n) h = ap (f x y ∷◌) (zip-take f xs ys n (omega arith))
 
-pub row_next : (cs rows out₀ out out₁ : List ℕ) (w i : ℕ) → i < length cs → w ≡ length out + 1
-    → plus_rows w (drop i cs) (drop (i * w) rows) out ≡ plus_rows w cs rows out₀
-    → out₁ ≡ plus_times (get_or cs i 0) out (take (w - 1) (drop (i * w + 1) rows))
-    → plus_rows w (drop (i + 1) cs) (drop ((i + 1) * w) rows) out₁ ≡ plus_rows w cs rows out₀
-row_next cs rows out₀ out out₁ w i h e p e₁ =
-    let at = i * w in
-    ap₂ (λ n o. plus_rows w (drop n cs) (drop ((i + 1) * w) rows) o) (add-one i)
-    (e₁ ∙ zip-take _ out (drop (at + 1) rows) (w - 1) (omega arith) ∙ ap (plus_times (get_or cs i 0) out) (sym (drop-drop 1 at rows)))
-    ∙ ap (λ s. plus_rows w (drop (suc i) cs) s (plus_times (get_or cs i 0) out (drop 1 (drop at rows)))) (ap (λ n. drop n rows) (sym (next_row i w at refl)) ∙ sym (drop-drop w at rows))
-    ∙ ap (λ l. plus_rows w l (drop at rows) out) (sym (drop-cons cs i 0 h))
-    ∙ p
+zip-front : (f : ℕ → ℕ → ℕ) (xs ys zs : List ℕ) → length xs ≤ length ys → zip_with f xs (ys ++ zs) ≡ zip_with f xs ys
+unfolding zip_with
+zip-front f [] ys zs h = refl
+zip-front f (x ∷ xs) [] zs h = absurd (omega arith)
+zip-front f (x ∷ xs) (y ∷ ys) zs h = ap (f x y ∷◌) (zip-front f xs ys zs (omega arith))
+
+-- a row is summed from its front alone, ..
+row_front : (c w : ℕ) (s rest out : List ℕ) → w ≡ length out + 1 → w ≤ length s → plus_times c out (drop 1 (s ++ rest)) ≡ plus_times c out (drop 1 s)
+row_front c w s rest out e h =
+    ap (plus_times c out) (drop-append-le 1 s rest (omega arith)) ∙ zip-front _ out (drop 1 s) rest (simp length-drop (omega arith))
+
+-- .. and the next row of those that are left is summed with the next coefficient
+pub row_next : (c w : ℕ) (cs row later out out₁ : List ℕ) → w ≡ length out + 1 → length row ≡ w → out₁ ≡ plus_times c out (take (length row - 1) (drop 1 row))
+    → plus_rows w cs later out₁ ≡ plus_rows w (c ∷ cs) (row ++ later) out
+row_next c w cs row later out out₁ e h q =
+    ap₂ (plus_rows w cs) (sym (drop_at row later w h))
+    (q ∙ zip-take _ out (drop 1 row) (length row - 1) (omega arith) ∙ sym (row_front c w row later out e (omega arith)))
+
+-- what lies behind the rows is not looked at
+plus_front : (w : ℕ) (cs s rest out : List ℕ) → w ≡ length out + 1 → length s ≡ length cs * w → plus_rows w cs (s ++ rest) out ≡ plus_rows w cs s out
+plus_front w [] s rest out e h = refl
+plus_front w (c ∷ cs) s rest out e h =
+    let some : w ≤ length s = omega (arith, h, suc-mul (length cs) w) in
+    ap₂ (plus_rows w cs) (drop-append-le w s rest some) (row_front c w s rest out e some)
+    ∙ plus_front w cs (drop w s) rest (plus_times c out (drop 1 s))
+    (e ∙ ap (◌+ 1) (sym (length-zip-le _ out (drop 1 s) (simp length-drop (omega arith)))))
+    (omega (arith, length-drop w s, h, suc-mul (length cs) w))
+
+pub plus_stored : (w m : ℕ) (cs s out : List ℕ) → w ≡ length out + 1 → length cs ≡ m → m * w ≤ length s → plus_rows w cs (take (m * w) s) out ≡ plus_rows w cs s out
+plus_stored w m cs s out e n h =
+    sym (plus_front w cs (take (m * w) s) (drop (m * w) s) out e (length-take-le (m * w) s h ∙ ap (◌* w) (sym n)))
+    ∙ ap (λ l. plus_rows w cs l out) (take-append-drop (m * w) s)
+
+-- all are summed where no coefficient is left, or not a whole row
+pub all_taken : (w : ℕ) (cs rows out : List ℕ) → length cs ≡ 0 → plus_rows w cs rows out ≡ out
+all_taken w [] rows out h = refl
+all_taken w (c ∷ cs) rows out h = absurd (omega arith)
+
+pub all_short : (w : ℕ) (cs rows out : List ℕ) → length rows ≡ length cs * w → length rows < w → plus_rows w cs rows out ≡ out
+all_short w [] rows out e h = refl
+all_short w (c ∷ cs) rows out e h = absurd (omega (arith, e, suc-mul (length cs) w))
 
 -- ---- the sums by their places
 

@@ -10,14 +10,14 @@ ghost use Rattle.shamir.specs.Polynomial.{others, weight};
 ghost use Rattle.shamir.specs.Rows.{combined};
 ghost use Rattle.rows.specs.Search.{sum, all_are, place_of, IsFound, first_repeated, first_repeating};
 ghost use Rattle.strides.specs.Strides.{strided};
-ghost use Rattle.rows.specs.Storage.{cut, values};
+ghost use Rattle.rows.specs.Storage.{values};
 ghost use Rattle.rows.specs.Lengths.{four_of, lengths_of};
 ghost use Rattle.std.proofs.Common.{sym};
 ghost use Rattle.std.proofs.lemmas.List.{map-id};
 ghost use Rattle.rows.specs.Combining.{Ready, plus_times, plus_rows};
 
 // Bytes, and those that identifiers can be: all but 0.
-const BYTES: usize = 256;
+pub const BYTES: usize = 256;
 
 const IDENTIFIERS: usize = BYTES - 1;
 
@@ -64,11 +64,10 @@ pub fn sums_to<T: Length>(lengths: &[T], n: usize) -> bool
 {
     let mut rest = n;
     for given in lengths {
-        let l = given.value() as usize;
-        if rest < l {
+        let Some(less) = rest.checked_sub(given.value() as usize) else {
             return false;
-        }
-        rest -= l;
+        };
+        rest = less;
     }
     rest == 0
 }
@@ -99,7 +98,7 @@ pub struct Rows<'a> {
 }
 
 impl Rows<'_> {
-    ghost use Rattle.rows.specs.Identifiers.{row_ids};
+    ghost use Rattle.rows.specs.Identifiers.{row_ids, row_list};
 
     // The identifier of row i.
     pub fn identifier(&self, i: usize) -> u8
@@ -114,12 +113,7 @@ impl Rows<'_> {
         requires { from ≤ self.now.count }
         ensures { IsFound result (from + place_of x (drop from (row_ids self.now))) self.now.count }
     {
-        for i in from..self.count {
-            if self.identifier(i) == x {
-                return Some(i);
-            }
-        }
-        None
+        (from..self.count).find(|i| self.identifier(*i) == x)
     }
 
     // Refusal 7: its second place, the first row whose identifier was met before. One pass, with a mark for each identifier that
@@ -128,6 +122,7 @@ impl Rows<'_> {
         ensures { IsFound result (first_repeating (row_ids self.now)) self.now.count }
     {
         let mut seen = [false; BYTES];
+        // A loop: marks are set as it goes, and an iterator is no plainer.
         for j in 0..self.count {
             let x = usize::from(self.identifier(j));
             if seen[x] {
@@ -143,16 +138,7 @@ impl Rows<'_> {
         requires { (j < self.now.count) × (j ≡ first_repeating (row_ids self.now)) }
         ensures { result ≡ first_repeated (row_ids self.now) }
     {
-        self.find(self.identifier(j), 0).unwrap_or(j)
-    }
-
-    // The values of row i.
-    fn values(&self, i: usize) -> &[u8]
-        requires { i < self.now.count }
-        ensures { result.now ≡ take (self.now.width - 1) (drop (i * self.now.width + 1) self.now.bytes.now) }
-    {
-        let at = i * self.width;
-        &self.bytes[at + 1..at + self.width]
+        self.find(self.identifier(j), 0).unwrap()
     }
 
     // The values of the rows in turn, each row's times its coefficient, to what is summed so far.
@@ -160,8 +146,9 @@ impl Rows<'_> {
         requires { (length coefficients.now ≡ self.now.count) × (self.now.width ≡ length out.old + 1) }
         ensures { out.new ≡ plus_rows self.now.width coefficients.now self.now.bytes.now out.old }
     {
-        for (i, c) in coefficients.iter().enumerate() {
-            add_scaled(out, self.values(i), *c);
+        let rows = &self.bytes[..self.count * self.width];
+        for (row, c) in rows.chunks_exact(self.width).zip(coefficients) {
+            add_scaled(out, &row[1..], *c);
         }
     }
 
@@ -175,9 +162,10 @@ impl Rows<'_> {
     // The secret of rows that are each one byte longer than it. Rows with distinct identifiers, none of them 0, are at most 255.
     pub fn combine_rows(&self, out: &mut [u8])
         requires { (self.now.width ≡ length out.old + 1) × Ready self.now.width self.now.count self.now.bytes.now }
-        ensures { out.new ≡ combined gf256 0 (row_ids self.now) (values (cut (replicate self.now.count self.now.width) self.now.bytes.now)) (length out.old) }
+        ensures { out.new ≡ combined gf256 0 (row_ids self.now) (values (row_list self.now)) (length out.old) }
     {
         let bytes = self.storage();
+        // Arrays: the library has no heap.
         let mut ids = [0u8; IDENTIFIERS];
         let mut coefficients = [0u8; IDENTIFIERS];
         let ids = &mut ids[..self.count];
@@ -201,6 +189,7 @@ fn times_differences(ds: &mut [u8], xs: &[u8], a: u8)
     requires { length ds.old ≡ length xs.now }
     ensures { ds.new ≡ zip_with (λ d x. cond (eqb a x) d (mul256 d (bit_xor x a))) ds.old xs.now }
 {
+    // By place: after a zip of iter_mut a proof knows no element.
     for (k, d) in ds.iter_mut().enumerate() {
         let x = xs[k];
         let f = if a == x { 1 } else { x ^ a };
@@ -243,6 +232,7 @@ fn add_scaled(out: &mut [u8], row: &[u8], c: u8)
     requires { length out.old ≡ length row.now }
     ensures { out.new ≡ plus_times c out.old row.now }
 {
+    // By place: after a zip of iter_mut a proof knows no element.
     for (k, o) in out.iter_mut().enumerate() {
         *o ^= gf256::gf256_mul(row[k], c);
     }

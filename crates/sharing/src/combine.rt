@@ -35,7 +35,7 @@ pub fn combine_bytes<T: Length>(rows: &[u8], lengths: &[T], out: &mut [u8]) -> R
     combine_accepted(&accepted, out)
 }
 
-// The same for the host, from which the lengths come as bytes, four a row, least first.
+// The same for the host, from which the lengths come as bytes, four a row, least first. Its name and its promise stay.
 pub fn combine_bytes_by_byte_lengths(
     rows: &[u8],
     lengths: &[u8],

@@ -34,13 +34,11 @@ fn split_answer(
     if threshold < 2 {
         return Err(Reason::SharingMinThreshold);
     }
-    for i in 0..limit {
-        let Some(id) = ids.get(i) else {
-            return Err(Reason::NotEnoughShareIdentifiers);
-        };
-        if *id == 0 {
-            return Err(Reason::SharingInvalidIdentifier(i));
-        }
+    if let Some(i) = ids.iter().take(limit).position(|id| *id == 0) {
+        return Err(Reason::SharingInvalidIdentifier(i));
+    }
+    if ids.len() < limit {
+        return Err(Reason::NotEnoughShareIdentifiers);
     }
     if MAX_SECRET < length {
         return Err(Reason::TooLong);
@@ -62,6 +60,7 @@ fn write_rows(ids: &[u8], polynomials: &Polynomials, out: &mut [u8])
         ++ drop (split_room (length ids.now) (length polynomials.now.secret.now)) out.old }
 {
     let w = polynomials.secret.len() + 1;
+    // By place: of what chunks_exact_mut lends a proof knows the length alone.
     for (j, x) in ids.iter().enumerate() {
         let at = j * w;
         out[at] = *x;

@@ -29,9 +29,6 @@ get_or-zip f (x ∷ xs) (y ∷ ys) zero h j = refl
 get_or-zip f (x ∷ xs) (y ∷ ys) (suc k) h j = get_or-zip f xs ys k (omega arith) (omega arith)
 
 module _ {f : ℕ → ℕ → ℕ} {l₀ : List ℕ} where
-  pub none : InPlace f l₀ 0 l₀
-  none = record { long = refl; done = λ k h. absurd (omega arith); rest = λ k h. refl }
-
   pub next : {l : List ℕ} (i v : ℕ) → InPlace f l₀ i l → i < length l → v ≡ f i (get_or l i 0) → InPlace f l₀ (i + 1) (set l i v)
   next {l} i v p h e = record {
     long = length-set l i v ∙ p.long;

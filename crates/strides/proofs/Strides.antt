@@ -3,18 +3,10 @@
 use mathlib.Core.Path.{◌≡◌, refl, sym, ap, ◌∙◌}
 use mathlib.Core.List.{List}
 use Prim.Native.Nat.{ℕ, zero, suc, ◌+◌, ◌*◌, ◌<◌, ◌≤◌}
-use native.Mathlib.Nat.{mul-le-mul_right}
 use native.Mathlib.Omega.{arith}
 use lib.ListN.{length, get_or, drop}
 use lib.Seq.{get_or-drop}
 use Rattle.strides.specs.Strides.{strided}
-
--- run i of m lies within the storage
-pub within-storage : (i m w n : ℕ) → i < m → m * w ≤ n → i * w + w ≤ n
-within-storage i m w n h l =
-    let a : suc i * w ≤ m * w = mul-le-mul_right w h in
-    let b : suc i * w ≡ i * w + w = omega arith in
-    omega arith
 
 pub length-strided : (w k m : ℕ) (s : List ℕ) → length (strided w k m s) ≡ m
 length-strided w k zero s = refl

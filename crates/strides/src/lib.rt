@@ -9,6 +9,7 @@ pub fn gather(from: &[u8], stride: usize, place: usize, out: &mut [u8])
     requires { (place < stride) × (length out.old * stride ≤ length from.now) }
     ensures { out.new ≡ strided stride place (length out.old) from.now }
 {
+    // By place: step_by and chunks_exact are slower by far, and after a zip of iter_mut a proof knows no element.
     for (i, o) in out.iter_mut().enumerate() {
         *o = from[i * stride + place];
     }

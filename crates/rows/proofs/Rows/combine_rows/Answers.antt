@@ -36,17 +36,23 @@ module _ (r : Rows) (ready : Ready r.width r.count r.bytes.now) (s : List ℕ) (
 known : (c : After-storage-bytes) → (i : ℕ) → get_or c.storage-bytes.result.now i 0 < 256
 known c i = (c.type_inv.bytes i).fits
 
+few-rows : (c : After-storage-bytes) → c.args.self.now.count ≤ 255
+few-rows c = few c.args.self.now c.requires.1 _ c.storage-bytes.ensures (known c)
+
+as_lent : (c : After-storage-bytes) → c.args.self.now.count ≡ length {A = ℕ} (take c.args.self.now.count (replicate 255 0))
+as_lent c = sym (lent c.args.self.now c.requires.1 _ c.storage-bytes.ensures (known c))
+
 pub slice_bounds-ids-end : goal.slice_bounds-ids-end
-slice_bounds-ids-end c = few c.args.self.now c.requires.1 _ c.storage-bytes.ensures (λ i. (c.type_inv.bytes i).fits)
+slice_bounds-ids-end c = few-rows (goal.at.slice_bounds-ids-end c).After-storage-bytes
 
 pub slice_bounds-ids-end-2 : goal.slice_bounds-ids-end-2
-slice_bounds-ids-end-2 c = sym (lent c.args.self.now c.requires.1 _ c.storage-bytes.ensures (λ i. (c.type_inv.bytes i).fits))
+slice_bounds-ids-end-2 c = as_lent (goal.at.slice_bounds-ids-end-2 c).After-storage-bytes
 
 pub slice_bounds-coefficients-end : goal.slice_bounds-coefficients-end
-slice_bounds-coefficients-end c = few c.args.self.now c.requires.1 _ c.storage-bytes.ensures (λ i. (c.type_inv.bytes i).fits)
+slice_bounds-coefficients-end c = few-rows (goal.at.slice_bounds-coefficients-end c).After-storage-bytes
 
 pub slice_bounds-coefficients-end-2 : goal.slice_bounds-coefficients-end-2
-slice_bounds-coefficients-end-2 c = sym (lent c.args.self.now c.requires.1 _ c.storage-bytes.ensures (λ i. (c.type_inv.bytes i).fits))
+slice_bounds-coefficients-end-2 c = as_lent (goal.at.slice_bounds-coefficients-end-2 c).After-storage-bytes
 
 pub lagrange_coefficients-requires : goal.lagrange_coefficients-requires
 lagrange_coefficients-requires c =

@@ -1,26 +1,54 @@
--- `split_answer` meets its contract: its tests are those of `split_outcome`, in the same order.
-use mathlib.Core.Path.{sym, ◌∙◌}
+-- `split_answer` meets its contract: its tests are those of `split_outcome`, in the same order; a search stands for those of the identifiers.
+use mathlib.Core.Path.{◌≡◌, sym, ◌∙◌}
+use Prim.Native.Nat.{ℕ}
 use native.Mathlib.Omega.{arith}
-use borrow.Author.Tests.{true-ltb, false-ltb, eq-eqb, ne_eqb}
-use Rattle.sharing.proofs.SplitRules.{turn_missing, turn_next}
+use borrow.Author.Tests.{tests, lt-ltb, le-ltb, eq-eqb, ne_eqb}
+use Rattle.std.proofs.Common.{rules}
+use Rattle.std.proofs.lemmas.Iterator.{YieldsList-from_slice, YieldsList-from_take, IsFirst-from_position}
+use Rattle.sharing.specs.Split.{split_outcome, in_turn}
+use Rattle.sharing.proofs.SplitRules.{after_ids, before_ids, Sought, found_zero, found_few, found_all}
 use Rattle.sharing.proofs.split.split_answer.Goals as goal
+use Rattle.sharing.proofs.split.split_answer.Goals.{After-position, Else-ids-limit}
 
-pub returns-in_default : goal.returns-in_default
-returns-in_default c =
-    let l = c.loop-i in
-    let a = c.args in
-    sym (l.invariant.0 ∙ turn_missing a.limit l.i a.ids.now _ (omega arith) (false-ltb _ _ c.in_default.ensures.lookup.0))
+sought : (c : After-position) → Sought c.args.limit c.args.ids.now c.position.result
+sought c =
+    IsFirst-from_position _ _ c.position.result (λ x. x ≡ 0) (λ x. x ≡ 0 → ⊥) c.position.ensures.ran
+    (YieldsList-from_take c.args.limit (YieldsList-from_slice c.args.ids.now (search rules)) (search rules))
+    (λ x q k. search (rules, tests)) (λ x q k. search (rules, tests))
 
-pub returns-then-id-eq0 : goal.returns-then-id-eq0
-returns-then-id-eq0 c =
-    let l = c.loop-i in
-    let a = c.args in
-    let there = true-ltb _ _ c.in-Some.ensures.lookup.0 in
-    sym (l.invariant.0 ∙ turn_next a.limit l.i a.ids.now _ c.in-Some.id.now (omega arith) there c.in-Some.ensures.lookup.1 ∙ simp (eq-eqb _ _ c.if-id-eq0.true))
+before : (c : After-position) → split_outcome c.args.threshold c.args.limit c.args.length c.args.ids.now c.args.count c.args.room
+    ≡ in_turn 0 c.args.limit c.args.ids.now (after_ids c.args.threshold c.args.limit c.args.length c.args.count c.args.room)
+before c = let a = c.args in before_ids a.threshold a.limit a.length a.ids.now a.count a.room (omega arith) c.if-length-eq0.false (omega arith) (omega arith)
 
-pub loop-i-preserved : goal.loop-i-preserved
-loop-i-preserved c =
-    let l = c.loop-i in
+settled : (c : Else-ids-limit) → split_outcome c.args.threshold c.args.limit c.args.length c.args.ids.now c.args.count c.args.room ≡ after_ids c.args.threshold c.args.limit c.args.length c.args.count c.args.room
+settled c =
     let a = c.args in
-    let there = true-ltb _ _ c.in-Some.ensures.lookup.0 in
-    (l.invariant.0 ∙ turn_next a.limit l.i a.ids.now _ c.in-Some.id.now (omega arith) there c.in-Some.ensures.lookup.1 ∙ simp (ne_eqb _ _ c.if-id-eq0.false), l.invariant.1, l.invariant.2, l.invariant.3)
+    before (goal.at.Else-ids-limit c).After-position ∙ found_all _ a.limit a.ids.now c.position.result (sought (goal.at.Else-ids-limit c).After-position) c.in_default.is c.if-ids-limit.false
+
+pub returns-in-Some : goal.returns-in-Some
+returns-in-Some c =
+    let a = c.args in
+    let p = (goal.at.returns-in-Some c).After-position in
+    sym (before p ∙ found_zero _ a.limit a.ids.now c.position.result (sought p) c.in-Some.i c.in-Some.is)
+
+pub returns-then-ids-limit : goal.returns-then-ids-limit
+returns-then-ids-limit c =
+    let a = c.args in
+    let p = (goal.at.returns-then-ids-limit c).After-position in
+    sym (before p ∙ found_few _ a.limit a.ids.now c.position.result (sought p) c.in_default.is c.if-ids-limit.true)
+
+pub returns-then-length-gt-MAX_SECRET : goal.returns-then-length-gt-MAX_SECRET
+returns-then-length-gt-MAX_SECRET c =
+    sym (settled (goal.at.returns-then-length-gt-MAX_SECRET c).Else-ids-limit ∙ simp (lt-ltb _ _ c.if-length-gt-MAX_SECRET.true))
+
+pub returns-then-count-length : goal.returns-then-count-length
+returns-then-count-length c =
+    sym (settled (goal.at.returns-then-count-length c).Else-ids-limit ∙ simp (le-ltb _ _ c.if-length-gt-MAX_SECRET.false, ne_eqb _ _ c.if-count-length.true))
+
+pub returns-then-room-bytes : goal.returns-then-room-bytes
+returns-then-room-bytes c =
+    sym (settled (goal.at.returns-then-room-bytes c).Else-ids-limit ∙ simp (le-ltb _ _ c.if-length-gt-MAX_SECRET.false, eq-eqb _ _ c.if-count-length.false, lt-ltb _ _ c.if-room-bytes.true))
+
+pub returns : goal.returns
+returns c =
+    sym (settled (goal.at.returns c).Else-ids-limit ∙ simp (le-ltb _ _ c.if-length-gt-MAX_SECRET.false, eq-eqb _ _ c.if-count-length.false, le-ltb _ _ c.if-room-bytes.false))

@@ -1,10 +1,10 @@
 -- A loop that fills a list d from the front has p, as long as it has come, and then the rest of d: `p ++ drop n d`.
 -- Assumes nothing.
 use mathlib.Core.Path.{◌≡◌, ◌∙◌, sym, ap, ap₂}
-use mathlib.Core.List.{List, [], ◌∷◌, ◌++◌, append_assoc, append-nil}
-use Prim.Native.Nat.{ℕ, suc, ◌+◌, ◌<◌, ◌≤◌}
+use mathlib.Core.List.{List, [], ◌∷◌, ◌++◌, append_assoc}
+use Prim.Native.Nat.{ℕ, suc, ◌+◌, ◌<◌}
 use native.Mathlib.Numerals.{add-one}
-use lib.ListN.{length, drop, get_or, set, drop_of_length-le}
+use lib.ListN.{length, drop, get_or, set}
 use lib.Seq.{drop-cons, set_at, get_or_at, append_snoc, take_at, drop_at, drop-drop}
 use borrow.Rule.Slice.PartMut.{put_mid}
 

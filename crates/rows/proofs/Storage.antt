@@ -8,7 +8,7 @@ use native.Mathlib.Omega.{arith}
 use lib.Dec.{eqb}
 use lib.ListN.{length, get_or, take, drop, replicate}
 use lib.Seq.{get_or-take, get_or-drop}
-use borrow.Author.Tests.{eq-eqb, eqb-true}
+use borrow.Author.Tests.{eqb-true}
 use Rattle.shamir.specs.Lists.{Below}
 use Rattle.shamir.specs.Rows.{column}
 use Rattle.strides.proofs.Strides.{length-strided, strided_at}

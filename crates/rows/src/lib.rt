@@ -1,7 +1,7 @@
 // Checks of rows that lie one after another in flat storage, and the secret that they share.
 #![tactic(auto)]
 
-ghost use Rattle.std.specs.Prelude.{◌≡◌, ℕ, List, refl, true, cond, ◌+◌, ◌*◌, ◌/◌, ◌<◌, ◌≤◌, eqb, length, get_or, take, drop, replicate, ◌-◌};
+ghost use Rattle.std.specs.Prelude.{◌≡◌, ℕ, List, refl, true, cond, ◌+◌, ◌*◌, ◌/◌, ◌<◌, ◌≤◌, eqb, length, get_or, drop};
 ghost use mathlib.Core.List.{foldr, map, zip_with};
 ghost use Rattle.std.specs.Int.Bits.{bit_xor};
 ghost use Rattle.gf256.specs.Field256.{mul256, inv256, gf256};

@@ -1,6 +1,5 @@
 -- `sums_to` meets its contract: the lengths passed are what was taken off n.
 use native.Mathlib.Omega.{arith}
-use Prim.Native.Nat.{◌≤◌, ◌<◌}
 use Rattle.rows.proofs.Lengths.{said, left_less, left_next}
 use Rattle.rows.proofs.sums_to.Goals as goal
 

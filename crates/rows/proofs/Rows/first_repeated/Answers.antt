@@ -2,9 +2,8 @@
 use mathlib.Core.Path.{◌≡◌, refl, sym, ap, ◌∙◌}
 use Prim.Native.Nat.{ℕ, ◌+◌, ◌<◌}
 use native.Mathlib.Omega.{arith}
-use lib.ListN.{length, get_or}
+use lib.ListN.{get_or}
 use Rattle.std.specs.Prelude.{Option, None, Some}
-use Rattle.std.specs.Option.{IsSome}
 use Rattle.rows.specs.declared.Rows.{Rows}
 use Rattle.rows.specs.Search.{IsFound, place_of}
 use Rattle.rows.specs.Identifiers.{row_ids}

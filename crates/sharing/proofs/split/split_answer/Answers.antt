@@ -1,6 +1,5 @@
 -- `split_answer` meets its contract: its tests are those of `split_outcome`, in the same order; a search stands for those of the identifiers.
 use mathlib.Core.Path.{◌≡◌, sym, ◌∙◌}
-use Prim.Native.Nat.{ℕ}
 use native.Mathlib.Omega.{arith}
 use borrow.Author.Tests.{tests, lt-ltb, le-ltb, eq-eqb, ne_eqb}
 use Rattle.std.proofs.Common.{rules}

@@ -10,7 +10,7 @@ pub(crate) const UNTOUCHED: u8 = 0xee;
 const REFUSALS: u64 = 0x100_0000_0000;
 
 // A checksum that places count in, so that two bytes changed about are seen.
-// A loop and no `fold`: of a fold the check does not find that the sum fits its type at each call, here the invariant says it in a line.
+// A loop and no `fold`: of a fold the check does not find that the sum fits its type at each call; an invariant says it in a line.
 fn checksum(s: &[u8]) -> u64 {
     let mut sum: u64 = 0;
     for b in s {

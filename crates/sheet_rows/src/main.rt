@@ -31,8 +31,8 @@ fn behind_first_line(text: &[u8]) -> &[u8]
     }
 }
 
-// What is shown of a text: of a sheet its row lines, of any other text the reason numbered 14. The rows are shorter than their lines, so
-// that there is room for those of every text that is read. Head and rows are arrays: they need no allocator and cannot fail.
+// What is shown of a text: of a sheet its row lines, of any other text the reason numbered 14. The rows are shorter than their lines,
+// so that there is room for those of every text that is read. Head and rows are arrays: they need no allocator and cannot fail.
 fn output_of(text: &[u8]) -> Result<&[u8], Reason>
     requires { length text.now ≤ 49152 }
     ensures { MatchResult result

@@ -1,8 +1,8 @@
 // What a text begins with: a number, digits of hex. What gives something gives it with the rest of the text behind it, and None where
 // there is none.
-ghost use Rattle.std.specs.Prelude.{◌≡◌, ◌↔◌, ◌<◌, ◌≤◌, ◌^◌, ℕ, EachIndex, IsTrue, MatchOption, length, slice_index};
+ghost use Rattle.std.specs.Prelude.{◌≡◌, ◌↔◌, IsTrue, MatchOption};
 ghost use Rattle.shamir.specs.Lists.{All};
-ghost use Rattle.sheets.specs.ReadAs.{IsDigit, IsHexDigit, value};
+ghost use Rattle.sheets.specs.ReadAs.{IsHexDigit};
 ghost use Rattle.reader.specs.Taking.{NumberRead, NoNumber, is_hex_digit};
 
 // The numbers of a sheet have at most so many digits.

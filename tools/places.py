@@ -23,7 +23,7 @@ COUNTED = re.compile(r"^\s*\w+ [-+]= ")
 CAST = re.compile(r"\bas [iu](8|16|32|64|size)\b")
 # Equality, order, copying, conversion and printing by their implementations, and loops that compare or copy.
 BY_HAND = re.compile(r"impl .*\b(PartialEq|Eq|PartialOrd|Ord|Clone|Copy|Display|Debug)\b.* for|\* (256|65536|16777216)\b|/ (65536|16777216)\b|= b'[a-z]';")
-ENUM = re.compile(r"^\s*(pub )?enum (\w+)")
+ENUM = re.compile(r"^\s*(pub(\(\w+\))? )?enum (\w+)")
 ARRAY = re.compile(r"\[[^\[\]]*; *[A-Z0-9_]+\]")
 CHAIN = re.compile(r"^\s*if is_\w+\(.*\) \{$")
 HEAD = re.compile(

@@ -21,6 +21,7 @@ fn take_hex(digits: &[u8], out: &mut [u8])
     requires { (length digits.now ≡ length out.old * 2) × All IsHexDigit digits.now }
     ensures { out.new ≡ unhex digits.now }
 {
+    // By place, as in `rows`: after a zip of iter_mut a proof knows no element.
     for (k, byte) in out.iter_mut().enumerate() {
         *byte = hex_value(digits[k * 2]) * 16 + hex_value(digits[k * 2 + 1]);
     }

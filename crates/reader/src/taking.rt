@@ -18,6 +18,7 @@ pub fn read_number(text: &[u8]) -> Option<(usize, &[u8])>
         if !c.is_ascii_digit() {
             break;
         }
+        // `as` and no `From`: with it the proof of the digits did not close.
         n = n * 10 + (*c - b'0') as usize;
         k += 1;
     }

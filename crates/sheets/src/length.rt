@@ -33,7 +33,7 @@ pub fn row_length(id: u8, l: usize) -> usize
     requires { l ≤ max_secret }
     ensures { (result ≡ length (decimal id) + 2 * l + 6) × (result ≤ 2 * max_secret + 11) }
 {
-    decimal_length(id as usize) + 2 * l + 6
+    decimal_length(usize::from(id)) + 2 * l + 6
 }
 
 // Of a sheet with this first line and these rows.

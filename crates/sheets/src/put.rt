@@ -111,6 +111,7 @@ impl<'a> Page<'a> {
         ensures { Adds (row_line row.now) self.old self.new }
     {
         self.word(b"row");
+        // `as` and no `From`: with it the proof of the line did not close.
         self.number(row[0] as usize);
         self.byte(TAB);
         self.hex(&row[1..]);

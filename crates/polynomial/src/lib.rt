@@ -69,10 +69,13 @@ impl Polynomials<'_> {
         requires { length vs.old ≡ length self.now.secret.now }
         ensures { vs.new ≡ row gf256 self.now.k x self.now.secret.now self.now.coefficients.now }
     {
-        // By place: of what chunks_mut lends a proof knows the length alone.
-        for b in (0..vs.len()).step_by(BLOCK) {
-            let e = (b + BLOCK).min(vs.len());
+        // The values by place: of what chunks_mut lends a proof knows the length alone. The secret by chunks: by steps of a range each
+        // block costs more before its first byte, for a key of 16 bytes and threshold 2 half of the row again.
+        let mut b = 0;
+        for block in self.secret.chunks(BLOCK) {
+            let e = b + block.len();
             self.part(b, e).evaluate_in_place(x, &mut vs[b..e]);
+            b = e;
         }
     }
 }

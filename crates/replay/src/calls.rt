@@ -1,5 +1,6 @@
 // Answers one line: reads a call's fields in their order, but T and N last, and makes the call.
-ghost use Rattle.std.specs.Prelude.{◌≤◌, IfOk, false, vec_len};
+ghost use Rattle.std.specs.Prelude.{◌≡◌, ◌≤◌, IfOk, false, vec_len};
+ghost use Rattle.replay.specs.Rooms.{values, output, ids, rows, lengths};
 ghost use Rattle.replay.specs.Touched.{TouchedIs};
 
 use crate::parse::{Fault, bytes, number};
@@ -91,8 +92,15 @@ fn read(alloc: Global, [text, head_room, room]: [&[u8]; 3]) -> Result<Answer, Fa
     })
 }
 
-pub(crate) fn answer(alloc: Global, line: &[u8]) -> Result<Answer, Fault> {
-    let fields: Vec<&[u8]> = line.split(|c| *c == b' ').collect(alloc)?;
+// The word of a call and its fields, where it has most.
+const FIELDS: usize = 7;
+
+// What is kept of each field is as many bytes as `Rooms` says, no more and no fewer.
+pub(crate) fn answer(alloc: Global, line: &[u8]) -> Result<Answer, Fault>
+    ensures kept { (VALUES ≡ values) × (OUTPUT ≡ output) × (IDS ≡ ids) × (ROWS ≡ rows) × (LENGTHS ≡ lengths) }
+{
+    // One part more, to see that there are no more: a line of many spaces takes no memory.
+    let fields: Vec<&[u8]> = line.splitn(FIELDS + 1, |c| *c == b' ').collect(alloc)?;
     match fields.as_slice() {
         [b"split", t, n, secret, ids, coefficients, room] => {
             split(alloc, [t, n, secret, ids, coefficients, room])

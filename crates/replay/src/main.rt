@@ -27,12 +27,12 @@ use std::io;
 // A text may have this many bytes.
 const MOST: usize = 1048576;
 
-// Prints what a call comes to.
+// Prints what a call comes to. Words that stand as they are go out by write_all, which for a short line is most of its time.
 fn run<R: Print + AllocGlobal>(rt: &R, call: &[u8]) -> io::Result<()> {
     match calls::answer(rt.alloc(), call) {
         Ok(answer) => print!(rt; "{answer}"),
-        Err(Fault::Unreadable) => print!(rt; "unreadable"),
-        Err(Fault::TooLarge) => print!(rt; "too large"),
+        Err(Fault::Unreadable) => rt.write_all(b"unreadable"),
+        Err(Fault::TooLarge) => rt.write_all(b"too large"),
         Err(Fault::OutOfMemory(e)) => Err(e.into()),
     }
 }
@@ -42,7 +42,7 @@ fn line<R: Print + AllocGlobal>(rt: &R, text: &[u8]) -> io::Result<()> {
         [] | [b'#', ..] => rt.write_all(text)?,
         _ => run(rt, text)?,
     }
-    println!(rt)
+    rt.write_all(b"\n")
 }
 
 fn lines<R: Print + AllocGlobal>(rt: &R, text: &[u8]) -> io::Result<()> {

@@ -76,10 +76,11 @@ pub fn readable_lengths(bytes: &[u8]) -> Result<&[[u8; 4]], Reason>
         (λ lengths. (unreadable bytes.now ≡ false) × (map four_of lengths.now ≡ lengths_of bytes.now))
         (λ reason. (unreadable bytes.now ≡ true) × (reason_of reason ≡ refused 13 0 0)) }
 {
-    let (lengths, rest) = bytes.as_chunks();
-    if !rest.is_empty() {
+    let odd = bytes.len() % 4;
+    if odd != 0 {
         return Err(Reason::RowLengths);
     }
+    let lengths = rows::byte_lengths(bytes);
     if MAX_ROWS < lengths.len() {
         return Err(Reason::RowLengths);
     }

@@ -8,7 +8,7 @@ use native.Mathlib.Omega.{arith}
 use lib.Dec.{eqb}
 use lib.ListN.{length, get_or, take, drop, replicate}
 use lib.Seq.{get_or-take, get_or-drop}
-use borrow.Author.Tests.{eqb-true}
+use borrow.Author.Tests.{eq-eqb, eqb-true}
 use Rattle.shamir.specs.Lists.{Below}
 use Rattle.shamir.specs.Rows.{column}
 use Rattle.strides.proofs.Strides.{length-strided, strided_at}
@@ -47,6 +47,10 @@ equal_lengths w (n ∷ ns) e = step (eqb n w) (eqb-true n w) (equal_lengths w ns
     step : (b : Bool) → (b ≡ true → n ≡ w) → (all_are w ns ≡ true → ns ≡ replicate (length ns) w) → (b && all_are w ns) ≡ true → n ∷ ns ≡ replicate (suc (length ns)) w
     step true f g h = ap₂ ◌∷◌ (f refl) (g h)
     step false f g h = absurd (let z : ◌≡◌ {A = ℕ} 0 1 = cc in omega arith)
+
+pub all_equal : (w m : ℕ) → all_are w (replicate m w) ≡ true
+all_equal w zero = refl
+all_equal w (suc m) = ap (◌&& all_are w (replicate m w)) (eq-eqb w w refl) ∙ all_equal w m
 
 pub sum-replicate : (m w : ℕ) → sum (replicate m w) ≡ m * w
 sum-replicate zero w = omega arith

@@ -70,7 +70,7 @@ impl Polynomials<'_> {
         ensures { vs.new ≡ row gf256 self.now.k x self.now.secret.now self.now.coefficients.now }
     {
         // The values by place: of what chunks_mut lends a proof knows the length alone. The secret by chunks: by steps of a range each
-        // block costs more before its first byte, for a key of 16 bytes and threshold 2 half of the row again.
+        // block costs more before its first byte, and a key of 16 bytes with threshold 2 takes a quarter longer.
         let mut b = 0;
         for block in self.secret.chunks(BLOCK) {
             let e = b + block.len();

@@ -92,22 +92,59 @@ fn read(alloc: Global, [text, head_room, room]: [&[u8]; 3]) -> Result<Answer, Fa
     })
 }
 
-// The word of a call and its fields, where it has most.
-const FIELDS: usize = 7;
-
-// What is kept of each field is as many bytes as `Rooms` says, no more and no fewer.
+// The constants of these limits are those of `Rooms`.
 pub(crate) fn answer(alloc: Global, line: &[u8]) -> Result<Answer, Fault>
     ensures kept { (VALUES ≡ values) × (OUTPUT ≡ output) × (IDS ≡ ids) × (ROWS ≡ rows) × (LENGTHS ≡ lengths) }
 {
-    // One part more, to see that there are no more: a line of many spaces takes no memory.
-    let fields: Vec<&[u8]> = line.splitn(FIELDS + 1, |c| *c == b' ').collect(alloc)?;
-    match fields.as_slice() {
-        [b"split", t, n, secret, ids, coefficients, room] => {
-            split(alloc, [t, n, secret, ids, coefficients, room])
-        }
-        [b"combine", rows, lengths, room] => combine(alloc, [rows, lengths, room]),
-        [b"sheet", t, rows, lengths, room] => sheet(alloc, [t, rows, lengths, room]),
-        [b"read", text, head_room, room] => read(alloc, [text, head_room, room]),
+    // A word, as many fields as the longest call has, and one part more, to see that there are no more. No vector: a line that is no call,
+    // of many spaces or of none, is then refused as fast as it is read.
+    let mut parts = line.split(|c| *c == b' ');
+    let call = [
+        parts.next(),
+        parts.next(),
+        parts.next(),
+        parts.next(),
+        parts.next(),
+        parts.next(),
+        parts.next(),
+        parts.next(),
+    ];
+    match call {
+        [
+            Some(b"split"),
+            Some(t),
+            Some(n),
+            Some(secret),
+            Some(ids),
+            Some(coefficients),
+            Some(room),
+            None,
+        ] => { split(alloc, [t, n, secret, ids, coefficients, room]) }
+        [
+            Some(b"combine"),
+            Some(rows),
+            Some(lengths),
+            Some(room),
+            None,
+            ..
+        ] => { combine(alloc, [rows, lengths, room]) }
+        [
+            Some(b"sheet"),
+            Some(t),
+            Some(rows),
+            Some(lengths),
+            Some(room),
+            None,
+            ..
+        ] => { sheet(alloc, [t, rows, lengths, room]) }
+        [
+            Some(b"read"),
+            Some(text),
+            Some(head_room),
+            Some(room),
+            None,
+            ..
+        ] => { read(alloc, [text, head_room, room]) }
         _ => Err(Fault::Unreadable),
     }
 }

@@ -27,7 +27,8 @@ use std::io;
 // A text may have this many bytes.
 const MOST: usize = 1048576;
 
-// Prints what a call comes to. Words that stand as they are go out by write_all, which for a short line is most of its time.
+// Prints what a call comes to. Words that stand as they are go out by write_all: by print!, through a buffer, a short line takes a
+// quarter more.
 fn run<R: Print + AllocGlobal>(rt: &R, call: &[u8]) -> io::Result<()> {
     match calls::answer(rt.alloc(), call) {
         Ok(answer) => print!(rt; "{answer}"),

@@ -1,11 +1,11 @@
 -- A row in blocks of the secret. Assumes nothing.
 use mathlib.Core.Path.{◌≡◌, ◌∙◌, sym, ap, ap₂}
-use mathlib.Core.List.{List, [], ◌∷◌, ◌++◌, append-nil}
+use mathlib.Core.List.{List, [], ◌∷◌, ◌++◌}
 use Prim.Native.Nat.{ℕ, suc, ◌+◌, ◌-◌, ◌*◌, ◌≤◌}
 use native.Mathlib.Omega.{arith}
 use native.Mathlib.Nat.{zero-mul, suc-mul}
-use lib.ListN.{length, take, drop, drop_of_length-le}
-use lib.Seq.{length-take-le, take_all, take-add, drop-drop}
+use lib.ListN.{length, take, drop}
+use lib.Seq.{length-take-le, take-add, drop-drop}
 use borrow.Rule.Slice.PartMut.{put_mid}
 use Rattle.shamir.specs.Polynomial.{value}
 use Rattle.shamir.specs.Rows.{row}
@@ -36,9 +36,3 @@ block_fills b e k x ss cs vs₀ vs new more within ev en =
     ap (λ l. put_mid b (e - b) l new) ev
     ∙ fill_part done vs₀ b (length-row gf256 k x (take b ss) cs ∙ long) (e - b) new
     ∙ ap₂ (λ l n. l ++ drop n vs₀) grown end
-
--- the row is whole once all of the secret is passed
-pub row_filled : (b k x : ℕ) (ss cs vs₀ : List ℕ) → length ss ≤ b → length vs₀ ≤ b → row gf256 k x (take b ss) cs ++ drop b vs₀ ≡ row gf256 k x ss cs
-row_filled b k x ss cs vs₀ h g =
-    ap (λ l. row gf256 k x l cs ++ drop b vs₀) (take_all b ss h)
-    ∙ ap (row gf256 k x ss cs ++◌) (drop_of_length-le vs₀ {i = b} g) ∙ append-nil (row gf256 k x ss cs)

@@ -92,7 +92,7 @@ fn read(alloc: Global, [text, head_room, room]: [&[u8]; 3]) -> Result<Answer, Fa
     })
 }
 
-// The constants of these limits are those of `Rooms`.
+// Makes the call that a line is. The limits above are the numbers of `Rooms`.
 pub(crate) fn answer(alloc: Global, line: &[u8]) -> Result<Answer, Fault>
     ensures kept { (VALUES ≡ values) × (OUTPUT ≡ output) × (IDS ≡ ids) × (ROWS ≡ rows) × (LENGTHS ≡ lengths) }
 {
